@@ -1,0 +1,5 @@
+// How an executor ends: bugs, errors and outcomes, with document 01's number and value of each.
+// For hosts and for the layers above. The numbers are given in specs/Numbers.antt.
+pub mod bug;
+pub mod error;
+pub mod outcome;

@@ -1,0 +1,111 @@
+-- What each instruction does ("Executing" in document 01), from its pc, the values of its operands and the number W of memory words.
+-- Arithmetic, addresses and targets are the manual's; where document 01 departs from it, a line says so.
+use mathlib.Core.Bool.{cond}
+use Prim.Native.Nat.{ℕ, _/_, _%_}
+use lib.Dec.{eqb, ltb}
+use Rattle.riscu.specs.declared.instruction.Instruction.{Instruction}
+use Rattle.riscu.specs.declared.instruction.Instruction.the-variants as instruction
+use Rattle.answers.specs.declared.bug.Bug.{Bug}
+use Rattle.answers.specs.declared.bug.Bug.the-variants.{DivisionByZero, AccessToUninitializedMemory, AccessToUnalignedAddress, AccessToOutOfRangeAddress}
+use Rattle.answers.specs.declared.bug.UninitializedMemoryAccessReason.the-variants.{InstructionWithUninitializedOperand}
+use Rattle.answers.specs.declared.error.NotSupportedReason.{NotSupportedReason}
+use Rattle.answers.specs.declared.error.NotSupportedReason.the-variants.{LdUninitializedBase, SdUninitializedBase, JalrUninitializedBase}
+use Rattle.answers.specs.declared.error.ExecutorError.the-variants.{NotSupported}
+use Rattle.answers.specs.declared.outcome.Outcome.the-variants.{Found, Failed}
+use Rattle.effects.specs.declared.arithmetic.Op.{Op}
+use Rattle.effects.specs.declared.arithmetic.Op.the-variants.{Add, Sub, Mul, Sltu, Divu, Remu}
+use Rattle.effects.specs.declared.effect.Value.{Value}
+use Rattle.effects.specs.declared.effect.Value.the-variants.{Concrete, Uninitialized}
+use Rattle.effects.specs.declared.effect.Access.{Access}
+use Rattle.effects.specs.declared.effect.Access.the-variants.{Word, Invalid}
+use Rattle.effects.specs.declared.effect.Effect.{Effect}
+use Rattle.effects.specs.declared.effect.Effect.the-variants.{Assign, Load, Store, Jump, Call, End}
+use Rattle.effects.specs.Arithmetic.{add, operated}
+
+abbrev pub bug : Bug → Effect
+bug b = End (Found b)
+
+abbrev pub notSupported : NotSupportedReason → Effect
+notSupported why = End (Failed (NotSupported why))
+
+-- 42: a missing operand
+abbrev pub missingOperand : Effect
+missingOperand = bug (AccessToUninitializedMemory InstructionWithUninitializedOperand)
+
+-- the instruction that follows
+abbrev pub next : ℕ → ℕ
+next pc = add pc 4
+
+-- rd takes a value and pc goes on; x0 is never written
+unfoldable pub assign : ℕ → Value → ℕ → Effect
+assign rd v pc = cond (eqb rd 0) (Jump pc) (Assign rd v pc)
+
+-- an operation on two operands
+unfoldable pub binaryOp : Op → ℕ → ℕ → Value → Value → Effect
+binaryOp op rd pc (Concrete a) (Concrete b) = assign rd (Concrete (operated op a b)) (next pc)
+binaryOp op rd pc (Concrete a) Uninitialized = missingOperand
+binaryOp op rd pc Uninitialized b = missingOperand
+
+-- a concrete zero divisor gives 41 first (departure: the manual divides by zero without a trap)
+unfoldable pub divuRemu : Op → ℕ → ℕ → Value → Value → Effect
+divuRemu op rd pc a (Concrete b) = cond (eqb b 0) (bug DivisionByZero) (binaryOp op rd pc a (Concrete b))
+divuRemu op rd pc a Uninitialized = missingOperand
+
+unfoldable pub beq : ℕ → ℕ → Value → Value → Effect
+beq imm pc (Concrete a) (Concrete b) = Jump (cond (eqb a b) (add pc imm) (next pc))
+beq imm pc (Concrete a) Uninitialized = missingOperand
+beq imm pc Uninitialized b = missingOperand
+
+-- the immediate has been extended by zeros (departure: see immU in riscu's Formats)
+abbrev pub lui : ℕ → ℕ → ℕ → Effect
+lui rd imm pc = assign rd (Concrete imm) (next pc)
+
+abbrev pub jal : ℕ → ℕ → ℕ → Effect
+jal rd imm pc = assign rd (Concrete (next pc)) (add pc imm)
+
+-- departure: the target keeps its lowest bit, which the manual clears
+unfoldable pub jalr : ℕ → ℕ → ℕ → Value → Effect
+jalr rd imm pc (Concrete base) = assign rd (Concrete (next pc)) (add base imm)
+jalr rd imm pc Uninitialized = notSupported JalrUninitializedBase
+
+-- the memory word at an address: 43 if unaligned, then 44 if out of range
+unfoldable pub access : ℕ → ℕ → Access
+access address w =
+    cond (eqb (address % 8) 0)
+    (cond (ltb (address / 8) w) (Word (address / 8)) (Invalid AccessToOutOfRangeAddress))
+    (Invalid (AccessToUnalignedAddress address))
+
+-- ld of an accessed word into rd; x0 is never written
+unfoldable pub loadFrom : Access → ℕ → ℕ → Effect
+loadFrom (Word m) rd pc = cond (eqb rd 0) (Jump pc) (Load rd m pc)
+loadFrom (Invalid b) rd pc = bug b
+
+unfoldable pub ld : ℕ → ℕ → ℕ → Value → ℕ → Effect
+ld rd imm pc (Concrete base) w = loadFrom (access (add base imm) w) rd (next pc)
+ld rd imm pc Uninitialized w = notSupported LdUninitializedBase
+
+-- sd of a value, which may be uninitialised, to an accessed word
+unfoldable pub storeTo : Access → Value → ℕ → Effect
+storeTo (Word m) v pc = Store m v pc
+storeTo (Invalid b) v pc = bug b
+
+unfoldable pub sd : ℕ → ℕ → Value → Value → ℕ → Effect
+sd imm pc (Concrete base) v w = storeTo (access (add base imm) w) v (next pc)
+sd imm pc Uninitialized v w = notSupported SdUninitializedBase
+
+-- the effect of an instruction at pc whose source registers rs1 and rs2 hold a and b, with W memory words
+unfoldable pub effectOf : Instruction → ℕ → Value → Value → ℕ → Effect
+effectOf (instruction.Lui u) pc a b w = lui (u .rd) (u .imm) pc
+effectOf (instruction.Jal j) pc a b w = jal (j .rd) (j .imm) pc
+effectOf (instruction.Jalr i) pc a b w = jalr (i .rd) (i .imm) pc a
+effectOf (instruction.Beq t) pc a b w = beq (t .imm) pc a b
+effectOf (instruction.Ld i) pc a b w = ld (i .rd) (i .imm) pc a w
+effectOf (instruction.Sd s) pc a b w = sd (s .imm) pc a b w
+effectOf (instruction.Addi i) pc a b w = binaryOp Add (i .rd) pc a (Concrete (i .imm))
+effectOf (instruction.Add r) pc a b w = binaryOp Add (r .rd) pc a b
+effectOf (instruction.Sub r) pc a b w = binaryOp Sub (r .rd) pc a b
+effectOf (instruction.Mul r) pc a b w = binaryOp Mul (r .rd) pc a b
+effectOf (instruction.Sltu r) pc a b w = binaryOp Sltu (r .rd) pc a b
+effectOf (instruction.Divu r) pc a b w = divuRemu Divu (r .rd) pc a b
+effectOf (instruction.Remu r) pc a b w = divuRemu Remu (r .rd) pc a b
+effectOf instruction.Ecall pc a b w = Call

@@ -1,0 +1,3 @@
+pub mod System
+pub mod Arithmetic
+pub mod Effects

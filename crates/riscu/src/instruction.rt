@@ -1,0 +1,59 @@
+// The fourteen instructions, each with the fields of its format (the manual's R, I, S, B, U and J).
+// A register is its number, from 0 to 31; an immediate is ready for use as a 64-bit number.
+
+pub struct RType {
+    pub rd: usize,
+    pub rs1: usize,
+    pub rs2: usize,
+}
+
+pub struct IType {
+    pub rd: usize,
+    pub rs1: usize,
+    pub imm: u64,
+}
+
+pub struct SType {
+    pub rs1: usize,
+    pub rs2: usize,
+    pub imm: u64,
+}
+
+pub struct BType {
+    pub rs1: usize,
+    pub rs2: usize,
+    pub imm: u64,
+}
+
+pub struct UType {
+    pub rd: usize,
+    pub imm: u64,
+}
+
+pub struct JType {
+    pub rd: usize,
+    pub imm: u64,
+}
+
+pub enum Instruction {
+    Lui(UType),
+    Jal(JType),
+    Jalr(IType),
+    Beq(BType),
+    Ld(IType),
+    Sd(SType),
+    Addi(IType),
+    Add(RType),
+    Sub(RType),
+    Mul(RType),
+    Sltu(RType),
+    Divu(RType),
+    Remu(RType),
+    Ecall,
+}
+
+// What a word decodes to. An invalid encoding is document 01's number 21.
+pub enum Decoded {
+    Valid(Instruction),
+    Invalid,
+}
