@@ -14,10 +14,10 @@ use Rattle.answers.specs.declared.error.ExecutorError.the-variants.{NotSupporte
 use Rattle.answers.specs.declared.outcome.Outcome.the-variants.{Found, Failed}
 use Rattle.effects.specs.declared.arithmetic.Op.{Op}
 use Rattle.effects.specs.declared.arithmetic.Op.the-variants.{Add, Sub, Mul, Sltu, Divu, Remu}
-use Rattle.effects.specs.declared.effect.Value.{Value}
-use Rattle.effects.specs.declared.effect.Value.the-variants.{Concrete, Uninitialized}
-use Rattle.effects.specs.declared.effect.Access.{Access}
-use Rattle.effects.specs.declared.effect.Access.the-variants.{Word, Invalid}
+use Rattle.effects.specs.declared.value.Value.{Value}
+use Rattle.effects.specs.declared.value.Value.the-variants.{Concrete, Uninitialized}
+use Rattle.effects.specs.declared.rules.Access.{Access}
+use Rattle.effects.specs.declared.rules.Access.the-variants.{Word, Invalid}
 use Rattle.effects.specs.declared.effect.Effect.{Effect}
 use Rattle.effects.specs.declared.effect.Effect.the-variants.{Assign, Load, Store, Jump, Call, End}
 use Rattle.effects.specs.Arithmetic.{add, operated}
@@ -93,19 +93,19 @@ unfoldable pub sd : ℕ → ℕ → Value → Value → ℕ → Effect
 sd imm pc (Concrete base) v w = storeTo (access (add base imm) w) v (next pc)
 sd imm pc Uninitialized v w = notSupported SdUninitializedBase
 
--- the effect of an instruction at pc whose source registers rs1 and rs2 hold a and b, with W memory words
-unfoldable pub effectOf : Instruction → ℕ → Value → Value → ℕ → Effect
-effectOf (instruction.Lui u) pc a b w = lui (u .rd) (u .imm) pc
-effectOf (instruction.Jal j) pc a b w = jal (j .rd) (j .imm) pc
-effectOf (instruction.Jalr i) pc a b w = jalr (i .rd) (i .imm) pc a
-effectOf (instruction.Beq t) pc a b w = beq (t .imm) pc a b
-effectOf (instruction.Ld i) pc a b w = ld (i .rd) (i .imm) pc a w
-effectOf (instruction.Sd s) pc a b w = sd (s .imm) pc a b w
-effectOf (instruction.Addi i) pc a b w = binaryOp Add (i .rd) pc a (Concrete (i .imm))
-effectOf (instruction.Add r) pc a b w = binaryOp Add (r .rd) pc a b
-effectOf (instruction.Sub r) pc a b w = binaryOp Sub (r .rd) pc a b
-effectOf (instruction.Mul r) pc a b w = binaryOp Mul (r .rd) pc a b
-effectOf (instruction.Sltu r) pc a b w = binaryOp Sltu (r .rd) pc a b
-effectOf (instruction.Divu r) pc a b w = divuRemu Divu (r .rd) pc a b
-effectOf (instruction.Remu r) pc a b w = divuRemu Remu (r .rd) pc a b
-effectOf instruction.Ecall pc a b w = Call
+-- the effect of an instruction at pc, where register n holds x n, with W memory words
+unfoldable pub effectOf : Instruction → ℕ → (ℕ → Value) → ℕ → Effect
+effectOf (instruction.Lui t) pc x w = lui (t .rd) (t .imm) pc
+effectOf (instruction.Jal t) pc x w = jal (t .rd) (t .imm) pc
+effectOf (instruction.Jalr t) pc x w = jalr (t .rd) (t .imm) pc (x (t .rs1))
+effectOf (instruction.Beq t) pc x w = beq (t .imm) pc (x (t .rs1)) (x (t .rs2))
+effectOf (instruction.Ld t) pc x w = ld (t .rd) (t .imm) pc (x (t .rs1)) w
+effectOf (instruction.Sd t) pc x w = sd (t .imm) pc (x (t .rs1)) (x (t .rs2)) w
+effectOf (instruction.Addi t) pc x w = binaryOp Add (t .rd) pc (x (t .rs1)) (Concrete (t .imm))
+effectOf (instruction.Add t) pc x w = binaryOp Add (t .rd) pc (x (t .rs1)) (x (t .rs2))
+effectOf (instruction.Sub t) pc x w = binaryOp Sub (t .rd) pc (x (t .rs1)) (x (t .rs2))
+effectOf (instruction.Mul t) pc x w = binaryOp Mul (t .rd) pc (x (t .rs1)) (x (t .rs2))
+effectOf (instruction.Sltu t) pc x w = binaryOp Sltu (t .rd) pc (x (t .rs1)) (x (t .rs2))
+effectOf (instruction.Divu t) pc x w = divuRemu Divu (t .rd) pc (x (t .rs1)) (x (t .rs2))
+effectOf (instruction.Remu t) pc x w = divuRemu Remu (t .rd) pc (x (t .rs1)) (x (t .rs2))
+effectOf instruction.Ecall pc x w = Call

@@ -1,25 +1,26 @@
-// The rules of the instructions (the Rust's execute_..), by value.
+// What an instruction does, from the instruction, its pc and the registers (the Rust's execute and execute_..).
 ghost use mathlib.Core.Path.{_≡_};
-ghost use Rattle.effects.specs.Effects.{notSupported, missingOperand, binaryOp, divuRemu, loadFrom, storeTo, effectOf};
-ghost use Rattle.effects.specs.Effects.{next as nextOf, assign as assignOf, access as accessOf};
-ghost use Rattle.effects.specs.Effects.{lui as luiOf, beq as beqOf, jal as jalOf, jalr as jalrOf, ld as ldOf, sd as sdOf};
+ghost use Prim.Native.Nat.{_<_};
+ghost use Rattle.riscu.specs.Registers.{Registers, RRegisters, IRegisters, SRegisters, BRegisters};
+ghost use Rattle.effects.specs.Values.{valueAt, RegisterFile};
+ghost use Rattle.effects.specs.Effects.{binaryOp, divuRemu, beq as beqOf, jalr as jalrOf, ld as ldOf, sd as sdOf, effectOf};
 use crate::arithmetic::Op;
-use crate::arithmetic::operate;
-use answers::bug::Bug;
-use answers::bug::UninitializedMemoryAccessReason;
-use answers::error::ExecutorError;
-use answers::error::NotSupportedReason;
+use crate::rules::beq;
+use crate::rules::binary_op;
+use crate::rules::divu_remu;
+use crate::rules::jal;
+use crate::rules::jalr;
+use crate::rules::ld;
+use crate::rules::lui;
+use crate::rules::sd;
+use crate::value::Value;
+use crate::value::value_at;
 use answers::outcome::Outcome;
+use riscu::instruction::BType;
+use riscu::instruction::IType;
 use riscu::instruction::Instruction;
-use std::num::wrapping_add_u64;
-
-const INSTRUCTION_SIZE: u64 = 4;
-
-// What a register or a memory word holds.
-pub enum Value {
-    Concrete(u64),
-    Uninitialized,
-}
+use riscu::instruction::RType;
+use riscu::instruction::SType;
 
 // What an instruction does to the machine that executes it. Each but a call and an end gives the next pc.
 pub enum Effect {
@@ -37,190 +38,92 @@ pub enum Effect {
     End(Outcome),
 }
 
-// A memory word, or why an address names none.
-pub enum Access {
-    Word(usize),
-    Invalid(Bug),
-}
-
-fn next(pc: u64) -> u64
-    ensures { λ r. ⌜ r ≡ nextOf pc ⌝ }
+fn execute_rtype(words: &[u64], marks: &[u8], op: Op, t: RType, pc: u64) -> Effect
+    requires { ⌜ RegisterFile (now words) (now marks) ⌝ ∗ ⌜ RRegisters t ⌝ }
+    ensures { λ r. ⌜ r ≡ binaryOp op (t .rd) pc (valueAt (now (words .entry)) (now (marks .entry)) (t .rs1)) (valueAt (now (words .entry)) (now (marks .entry)) (t .rs2)) ⌝ }
 {
-    wrapping_add_u64(pc, INSTRUCTION_SIZE)
+    let a = value_at(words, marks, t.rs1);
+    let b = value_at(words, marks, t.rs2);
+    binary_op(op, t.rd, pc, a, b)
 }
 
-fn missing_operand() -> Effect
-    ensures { λ r. ⌜ r ≡ missingOperand ⌝ }
+fn execute_divu_remu(words: &[u64], marks: &[u8], op: Op, t: RType, pc: u64) -> Effect
+    requires { ⌜ RegisterFile (now words) (now marks) ⌝ ∗ ⌜ RRegisters t ⌝ }
+    ensures { λ r. ⌜ r ≡ divuRemu op (t .rd) pc (valueAt (now (words .entry)) (now (marks .entry)) (t .rs1)) (valueAt (now (words .entry)) (now (marks .entry)) (t .rs2)) ⌝ }
 {
-    Effect::End(Outcome::Found(Bug::AccessToUninitializedMemory(
-        UninitializedMemoryAccessReason::InstructionWithUninitializedOperand,
-    )))
+    let a = value_at(words, marks, t.rs1);
+    let b = value_at(words, marks, t.rs2);
+    divu_remu(op, t.rd, pc, a, b)
 }
 
-fn not_supported(reason: NotSupportedReason) -> Effect
-    ensures { λ r. ⌜ r ≡ notSupported reason ⌝ }
+fn execute_itype(words: &[u64], marks: &[u8], op: Op, t: IType, pc: u64) -> Effect
+    requires { ⌜ RegisterFile (now words) (now marks) ⌝ ∗ ⌜ IRegisters t ⌝ }
+    ensures { λ r. ⌜ r ≡ binaryOp op (t .rd) pc (valueAt (now (words .entry)) (now (marks .entry)) (t .rs1)) (Value.Concrete (t .imm)) ⌝ }
 {
-    Effect::End(Outcome::Failed(ExecutorError::NotSupported(reason)))
+    let a = value_at(words, marks, t.rs1);
+    binary_op(op, t.rd, pc, a, Value::Concrete(t.imm))
 }
 
-// x0 is never written.
-pub fn assign_rd(rd: usize, value: Value, pc: u64) -> Effect
-    ensures { λ r. ⌜ r ≡ assignOf rd value pc ⌝ }
+fn execute_beq(words: &[u64], marks: &[u8], t: BType, pc: u64) -> Effect
+    requires { ⌜ RegisterFile (now words) (now marks) ⌝ ∗ ⌜ BRegisters t ⌝ }
+    ensures { λ r. ⌜ r ≡ beqOf (t .imm) pc (valueAt (now (words .entry)) (now (marks .entry)) (t .rs1)) (valueAt (now (words .entry)) (now (marks .entry)) (t .rs2)) ⌝ }
 {
-    if rd == 0 {
-        Effect::Jump { pc }
-    } else {
-        Effect::Assign { rd, value, pc }
-    }
+    let a = value_at(words, marks, t.rs1);
+    let b = value_at(words, marks, t.rs2);
+    beq(t.imm, pc, a, b)
 }
 
-pub fn lui(rd: usize, imm: u64, pc: u64) -> Effect
-    ensures { λ r. ⌜ r ≡ luiOf rd imm pc ⌝ }
+fn execute_jalr(words: &[u64], marks: &[u8], t: IType, pc: u64) -> Effect
+    requires { ⌜ RegisterFile (now words) (now marks) ⌝ ∗ ⌜ IRegisters t ⌝ }
+    ensures { λ r. ⌜ r ≡ jalrOf (t .rd) (t .imm) pc (valueAt (now (words .entry)) (now (marks .entry)) (t .rs1)) ⌝ }
 {
-    assign_rd(rd, Value::Concrete(imm), next(pc))
+    let base = value_at(words, marks, t.rs1);
+    jalr(t.rd, t.imm, pc, base)
 }
 
-pub fn binary_op(op: Op, rd: usize, pc: u64, a: Value, b: Value) -> Effect
-    ensures { λ r. ⌜ r ≡ binaryOp op rd pc a b ⌝ }
+fn execute_ld(words: &[u64], marks: &[u8], t: IType, pc: u64, memory: u64) -> Effect
+    requires { ⌜ RegisterFile (now words) (now marks) ⌝ ∗ ⌜ IRegisters t ⌝ }
+    ensures { λ r. ⌜ r ≡ ldOf (t .rd) (t .imm) pc (valueAt (now (words .entry)) (now (marks .entry)) (t .rs1)) memory ⌝ }
 {
-    let Value::Concrete(x) = a else {
-        return missing_operand();
-    };
-    let Value::Concrete(y) = b else {
-        return missing_operand();
-    };
-    assign_rd(rd, Value::Concrete(operate(op, x, y)), next(pc))
+    let base = value_at(words, marks, t.rs1);
+    ld(t.rd, t.imm, pc, base, memory)
 }
 
-pub fn divu_remu(op: Op, rd: usize, pc: u64, a: Value, b: Value) -> Effect
-    ensures { λ r. ⌜ r ≡ divuRemu op rd pc a b ⌝ }
+fn execute_sd(words: &[u64], marks: &[u8], t: SType, pc: u64, memory: u64) -> Effect
+    requires { ⌜ RegisterFile (now words) (now marks) ⌝ ∗ ⌜ SRegisters t ⌝ }
+    ensures { λ r. ⌜ r ≡ sdOf (t .imm) pc (valueAt (now (words .entry)) (now (marks .entry)) (t .rs1)) (valueAt (now (words .entry)) (now (marks .entry)) (t .rs2)) memory ⌝ }
 {
-    let Value::Concrete(divisor) = b else {
-        return missing_operand();
-    };
-    if divisor == 0 {
-        Effect::End(Outcome::Found(Bug::DivisionByZero))
-    } else {
-        binary_op(op, rd, pc, a, b)
-    }
+    let base = value_at(words, marks, t.rs1);
+    let value = value_at(words, marks, t.rs2);
+    sd(t.imm, pc, base, value, memory)
 }
 
-pub fn beq(imm: u64, pc: u64, a: Value, b: Value) -> Effect
-    ensures { λ r. ⌜ r ≡ beqOf imm pc a b ⌝ }
-{
-    let Value::Concrete(x) = a else {
-        return missing_operand();
-    };
-    let Value::Concrete(y) = b else {
-        return missing_operand();
-    };
-    if x == y {
-        Effect::Jump {
-            pc: wrapping_add_u64(pc, imm),
-        }
-    } else {
-        Effect::Jump { pc: next(pc) }
-    }
-}
-
-pub fn jal(rd: usize, imm: u64, pc: u64) -> Effect
-    ensures { λ r. ⌜ r ≡ jalOf rd imm pc ⌝ }
-{
-    assign_rd(rd, Value::Concrete(next(pc)), wrapping_add_u64(pc, imm))
-}
-
-pub fn jalr(rd: usize, imm: u64, pc: u64, a: Value) -> Effect
-    ensures { λ r. ⌜ r ≡ jalrOf rd imm pc a ⌝ }
-{
-    let Value::Concrete(base) = a else {
-        return not_supported(NotSupportedReason::JalrUninitializedBase);
-    };
-    assign_rd(rd, Value::Concrete(next(pc)), wrapping_add_u64(base, imm))
-}
-
-// The word at an address of a memory of `memory` words.
-fn check_for_valid_memory_address(address: u64, memory: u64) -> Access
-    ensures { λ r. ⌜ r ≡ accessOf address memory ⌝ }
-{
-    if address % 8 == 0 {
-        if address / 8 < memory {
-            Access::Word((address / 8) as usize)
-        } else {
-            Access::Invalid(Bug::AccessToOutOfRangeAddress)
-        }
-    } else {
-        Access::Invalid(Bug::AccessToUnalignedAddress(address))
-    }
-}
-
-fn load_from(access: Access, rd: usize, pc: u64) -> Effect
-    ensures { λ r. ⌜ r ≡ loadFrom access rd pc ⌝ }
-{
-    match access {
-        Access::Word(word) => {
-            if rd == 0 {
-                Effect::Jump { pc }
-            } else {
-                Effect::Load { rd, word, pc }
-            }
-        }
-        Access::Invalid(bug) => Effect::End(Outcome::Found(bug)),
-    }
-}
-
-pub fn ld(rd: usize, imm: u64, pc: u64, a: Value, memory: u64) -> Effect
-    ensures { λ r. ⌜ r ≡ ldOf rd imm pc a memory ⌝ }
-{
-    let Value::Concrete(base) = a else {
-        return not_supported(NotSupportedReason::LdUninitializedBase);
-    };
-    load_from(
-        check_for_valid_memory_address(wrapping_add_u64(base, imm), memory),
-        rd,
-        next(pc),
-    )
-}
-
-fn store_to(access: Access, value: Value, pc: u64) -> Effect
-    ensures { λ r. ⌜ r ≡ storeTo access value pc ⌝ }
-{
-    match access {
-        Access::Word(word) => Effect::Store { word, value, pc },
-        Access::Invalid(bug) => Effect::End(Outcome::Found(bug)),
-    }
-}
-
-pub fn sd(imm: u64, pc: u64, a: Value, value: Value, memory: u64) -> Effect
-    ensures { λ r. ⌜ r ≡ sdOf imm pc a value memory ⌝ }
-{
-    let Value::Concrete(base) = a else {
-        return not_supported(NotSupportedReason::SdUninitializedBase);
-    };
-    store_to(
-        check_for_valid_memory_address(wrapping_add_u64(base, imm), memory),
-        value,
-        next(pc),
-    )
-}
-
-// The effect of an instruction at pc whose registers rs1 and rs2 hold a and b, with a memory of `memory` words.
-pub fn effect_of(instruction: Instruction, pc: u64, a: Value, b: Value, memory: u64) -> Effect
-    ensures { λ r. ⌜ r ≡ effectOf instruction pc a b memory ⌝ }
+// The effect of an instruction at pc, with these registers and a memory of `memory` words. Each arm reads its own
+// operands, so that decoding and executing become one dispatch where they are compiled together.
+pub fn effect_of(
+    words: &[u64],
+    marks: &[u8],
+    instruction: Instruction,
+    pc: u64,
+    memory: u64,
+) -> Effect
+    requires { ⌜ RegisterFile (now words) (now marks) ⌝ ∗ ⌜ Registers instruction ⌝ }
+    ensures { λ r. ⌜ r ≡ effectOf instruction pc (valueAt (now (words .entry)) (now (marks .entry))) memory ⌝ }
 {
     match instruction {
-        Instruction::Lui(u) => lui(u.rd, u.imm, pc),
-        Instruction::Jal(j) => jal(j.rd, j.imm, pc),
-        Instruction::Jalr(i) => jalr(i.rd, i.imm, pc, a),
-        Instruction::Beq(t) => beq(t.imm, pc, a, b),
-        Instruction::Ld(i) => ld(i.rd, i.imm, pc, a, memory),
-        Instruction::Sd(s) => sd(s.imm, pc, a, b, memory),
-        Instruction::Addi(i) => binary_op(Op::Add, i.rd, pc, a, Value::Concrete(i.imm)),
-        Instruction::Add(r) => binary_op(Op::Add, r.rd, pc, a, b),
-        Instruction::Sub(r) => binary_op(Op::Sub, r.rd, pc, a, b),
-        Instruction::Mul(r) => binary_op(Op::Mul, r.rd, pc, a, b),
-        Instruction::Sltu(r) => binary_op(Op::Sltu, r.rd, pc, a, b),
-        Instruction::Divu(r) => divu_remu(Op::Divu, r.rd, pc, a, b),
-        Instruction::Remu(r) => divu_remu(Op::Remu, r.rd, pc, a, b),
+        Instruction::Lui(t) => lui(t.rd, t.imm, pc),
+        Instruction::Jal(t) => jal(t.rd, t.imm, pc),
+        Instruction::Jalr(t) => execute_jalr(words, marks, t, pc),
+        Instruction::Beq(t) => execute_beq(words, marks, t, pc),
+        Instruction::Ld(t) => execute_ld(words, marks, t, pc, memory),
+        Instruction::Sd(t) => execute_sd(words, marks, t, pc, memory),
+        Instruction::Addi(t) => execute_itype(words, marks, Op::Add, t, pc),
+        Instruction::Add(t) => execute_rtype(words, marks, Op::Add, t, pc),
+        Instruction::Sub(t) => execute_rtype(words, marks, Op::Sub, t, pc),
+        Instruction::Mul(t) => execute_rtype(words, marks, Op::Mul, t, pc),
+        Instruction::Sltu(t) => execute_rtype(words, marks, Op::Sltu, t, pc),
+        Instruction::Divu(t) => execute_divu_remu(words, marks, Op::Divu, t, pc),
+        Instruction::Remu(t) => execute_divu_remu(words, marks, Op::Remu, t, pc),
         Instruction::Ecall => Effect::Call,
     }
 }

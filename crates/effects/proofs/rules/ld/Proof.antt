@@ -1,0 +1,47 @@
+use borrow.Author.Needs.{needs}
+use Rattle.effects.specs.Effects.{ld}
+use Rattle.effects.proofs.rules.ld.Statement.{statement}
+use Rattle.effects.proofs.rules.ld.Tie as tie
+
+enum-known-a : tie.Need-enum-known-a
+enum-known-a c = search needs
+
+enum-told : tie.Need-enum-told
+enum-told c = search needs
+
+not-supported-requires : tie.Need-not-supported-requires
+not-supported-requires c κs = search needs
+
+returns : tie.Need-returns
+unfolding ld
+returns c = rw (c .not-supported .ensures, c .before .enum-told .given .1)
+
+wrapping-add-u64-requires : tie.Need-wrapping-add-u64-requires
+wrapping-add-u64-requires c κs = search needs
+
+check-for-valid-memory-address-requires : tie.Need-check-for-valid-memory-address-requires
+check-for-valid-memory-address-requires c κs = search needs
+
+next-requires : tie.Need-next-requires
+next-requires c κs = search needs
+
+load-from-requires : tie.Need-load-from-requires
+load-from-requires c κs = search needs
+
+returns-2 : tie.Need-returns-2
+unfolding ld
+returns-2 c = rw (c .load-from .ensures, c .before .next .ensures, c .before .before .check-for-valid-memory-address .ensures, c .before .before .before .wrapping-add-u64 .ensures, c .before .before .before .before .before .a .given .1)
+
+pub ld-spec : {M : Type 1} → statement M
+ld-spec =
+    tie.close
+    (tie.spec
+    enum-known-a
+    enum-told
+    not-supported-requires
+    returns
+    wrapping-add-u64-requires
+    check-for-valid-memory-address-requires
+    next-requires
+    load-from-requires
+    returns-2)

@@ -1,0 +1,15 @@
+use borrow.Author.Needs.{needs}
+use Rattle.effects.proofs.rules.lui.Statement.{statement}
+use Rattle.effects.proofs.rules.lui.Tie as tie
+
+next-requires : tie.Need-next-requires
+next-requires c κs = search needs
+
+assign-rd-requires : tie.Need-assign-rd-requires
+assign-rd-requires c κs = search needs
+
+returns : tie.Need-returns
+returns c = rw (c .assign-rd .ensures, c .before .next .ensures)
+
+pub lui-spec : {M : Type 1} → statement M
+lui-spec = tie.close (tie.spec next-requires assign-rd-requires returns)
