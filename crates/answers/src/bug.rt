@@ -19,7 +19,7 @@ pub enum UninitializedMemoryAccessReason {
 }
 
 impl Bug {
-    pub fn number(self) -> u64
+    pub(crate) fn number(self) -> u64
         ensures { λ r. ⌜ r ≡ bugNumber self ⌝ }
     {
         match self {
@@ -31,7 +31,7 @@ impl Bug {
         }
     }
 
-    pub fn value(self) -> u64
+    pub(crate) fn value(self) -> u64
         ensures { λ r. ⌜ r ≡ bugValue self ⌝ }
     {
         match self {

@@ -51,7 +51,7 @@ impl NotSupportedReason {
 }
 
 impl ExecutorError {
-    pub fn number(self) -> u64
+    pub(crate) fn number(self) -> u64
         ensures { λ r. ⌜ r ≡ errorNumber self ⌝ }
     {
         match self {
@@ -63,7 +63,7 @@ impl ExecutorError {
         }
     }
 
-    pub fn value(self) -> u64
+    pub(crate) fn value(self) -> u64
         ensures { λ r. ⌜ r ≡ errorValue self ⌝ }
     {
         match self {

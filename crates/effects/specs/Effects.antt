@@ -1,6 +1,6 @@
 -- What each instruction does ("Executing" in document 01), from its pc, the values of its operands and the number W of memory words.
 -- Arithmetic, addresses and targets are the manual's; where document 01 departs from it, a line says so.
-use mathlib.Core.Bool.{cond}
+use mathlib.Core.Bool.{Bool, false, cond}
 use Prim.Native.Nat.{ℕ, _/_, _%_}
 use lib.Dec.{eqb, ltb}
 use Rattle.riscu.specs.declared.instruction.Instruction.{Instruction}
@@ -46,10 +46,13 @@ binaryOp op rd pc (Concrete a) (Concrete b) = assign rd (Concrete (operated op a
 binaryOp op rd pc (Concrete a) Uninitialized = missingOperand
 binaryOp op rd pc Uninitialized b = missingOperand
 
+abbrev pub isZero : Value → Bool
+isZero (Concrete n) = eqb n 0
+isZero Uninitialized = false
+
 -- a concrete zero divisor gives 41 first (departure: the manual divides by zero without a trap)
 unfoldable pub divuRemu : Op → ℕ → ℕ → Value → Value → Effect
-divuRemu op rd pc a (Concrete b) = cond (eqb b 0) (bug DivisionByZero) (binaryOp op rd pc a (Concrete b))
-divuRemu op rd pc a Uninitialized = missingOperand
+divuRemu op rd pc a b = cond (isZero b) (bug DivisionByZero) (binaryOp op rd pc a b)
 
 unfoldable pub beq : ℕ → ℕ → Value → Value → Effect
 beq imm pc (Concrete a) (Concrete b) = Jump (cond (eqb a b) (add pc imm) (next pc))

@@ -1,6 +1,6 @@
 // The rules of the instructions, by the values of their operands.
 ghost use mathlib.Core.Path.{_≡_};
-ghost use Rattle.effects.specs.Effects.{notSupported, missingOperand, binaryOp, divuRemu, loadFrom, storeTo};
+ghost use Rattle.effects.specs.Effects.{notSupported, missingOperand, binaryOp, isZero, divuRemu, loadFrom, storeTo};
 ghost use Rattle.effects.specs.Effects.{next as nextOf, assign as assignOf, access as accessOf};
 ghost use Rattle.effects.specs.Effects.{lui as luiOf, beq as beqOf, jal as jalOf, jalr as jalrOf, ld as ldOf, sd as sdOf};
 use crate::arithmetic::Op;
@@ -71,13 +71,19 @@ pub fn binary_op(op: Op, rd: usize, pc: u64, a: Value, b: Value) -> Effect
     assign_rd(rd, Value::Concrete(operate(op, x, y)), next(pc))
 }
 
+fn is_zero(v: Value) -> bool
+    ensures { λ r. ⌜ r ≡ isZero v ⌝ }
+{
+    match v {
+        Value::Concrete(x) => x == 0,
+        Value::Uninitialized => false,
+    }
+}
+
 pub fn divu_remu(op: Op, rd: usize, pc: u64, a: Value, b: Value) -> Effect
     ensures { λ r. ⌜ r ≡ divuRemu op rd pc a b ⌝ }
 {
-    let Value::Concrete(divisor) = b else {
-        return missing_operand();
-    };
-    if divisor == 0 {
+    if is_zero(b) {
         Effect::End(Outcome::Found(Bug::DivisionByZero))
     } else {
         binary_op(op, rd, pc, a, b)

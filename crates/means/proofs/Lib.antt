@@ -1,0 +1,11 @@
+pub mod Fractions
+pub mod Closeness
+pub mod Halves
+pub mod Rounding
+pub mod Operations
+pub mod Shares
+pub mod Summing
+pub mod Bound
+pub mod Ruler
+pub mod Taking
+pub mod Examples
