@@ -1,7 +1,7 @@
 -- What each instruction does ("Executing" in document 01), from its pc, the values of its operands and the number W of memory words.
 -- Arithmetic, addresses and targets are the manual's; where document 01 departs from it, a line says so.
 use mathlib.Core.Bool.{Bool, false, cond}
-use Prim.Native.Nat.{ℕ, _/_, _%_}
+use Prim.Native.Nat.{ℕ, _/_, _%_, _<_}
 use lib.Dec.{eqb, ltb}
 use Rattle.riscu.specs.declared.instruction.Instruction.{Instruction}
 use Rattle.riscu.specs.declared.instruction.Instruction.the-variants as instruction
@@ -112,3 +112,12 @@ effectOf (instruction.Sltu t) pc x w = binaryOp Sltu (t .rd) pc (x (t .rs1)) (x 
 effectOf (instruction.Divu t) pc x w = divuRemu Divu (t .rd) pc (x (t .rs1)) (x (t .rs2))
 effectOf (instruction.Remu t) pc x w = divuRemu Remu (t .rd) pc (x (t .rs1)) (x (t .rs2))
 effectOf instruction.Ecall pc x w = Call
+
+-- what an effect may name on a machine of W memory words: registers 1 to 31, and words below W
+abbrev pub InReach : ℕ → Effect → Type 0
+InReach w (Assign rd v pc) = (0 < rd) × (rd < 32)
+InReach w (Load rd m pc) = (0 < rd) × (rd < 32) × (m < w)
+InReach w (Store m v pc) = m < w
+InReach w (Jump pc) = Unit {0}
+InReach w Call = Unit {0}
+InReach w (End outcome) = Unit {0}

@@ -1,0 +1,109 @@
+-- The effect of an instruction names only registers 1 to 31 and memory words that there are.
+use mathlib.Core.Path.{_≡_, refl, sym}
+use mathlib.Core.Bool.{Bool, true, false, cond}
+use Prim.Native.Nat.{ℕ, _+_, _/_, _%_, _^_, _<_}
+use native.Mathlib.Omega.{arith}
+use lib.Dec.{eqb, ltb}
+use borrow.Author.Tests.{ltb-true, eqb-false}
+use Rattle.riscu.specs.Registers.{Registers}
+use Rattle.riscu.specs.declared.instruction.Instruction.{Instruction}
+use Rattle.riscu.specs.declared.instruction.Instruction.the-variants as instruction
+use Rattle.answers.specs.declared.bug.Bug.the-variants.{DivisionByZero, AccessToUnalignedAddress, AccessToOutOfRangeAddress}
+use Rattle.effects.specs.declared.arithmetic.Op.{Op}
+use Rattle.effects.specs.declared.arithmetic.Op.the-variants.{Add, Sub, Mul, Sltu, Divu, Remu}
+use Rattle.effects.specs.declared.value.Value.{Value}
+use Rattle.effects.specs.declared.value.Value.the-variants.{Concrete, Uninitialized}
+use Rattle.effects.specs.declared.rules.Access.{Access}
+use Rattle.effects.specs.declared.rules.Access.the-variants.{Word, Invalid}
+use Rattle.effects.specs.declared.effect.Effect.{Effect}
+use Rattle.effects.specs.declared.effect.Effect.the-variants.{Assign, Load, Jump}
+use Rattle.effects.specs.Arithmetic.{add, operated}
+use Rattle.effects.specs.Effects.{InReach, bug, next, assign, binaryOp, isZero, divuRemu, beq, jalr, access, loadFrom, ld, storeTo, sd, effectOf}
+
+-- of two effects the one that a test chooses
+chosen : (w : ℕ) (b : Bool) (e f : Effect) → (b ≡ true → InReach w e) → (b ≡ false → InReach w f) → InReach w (cond b e f)
+chosen w true e f p q = p refl
+chosen w false e f p q = q refl
+
+above-zero : (n : ℕ) → eqb n 0 ≡ false → 0 < n
+above-zero n f = let h = eqb-false n 0 f in omega arith
+
+assign-reach : (w rd : ℕ) (v : Value) (pc : ℕ) → rd < 32 → InReach w (assign rd v pc)
+unfolding assign
+assign-reach w rd v pc h = chosen w (eqb rd 0) (Jump pc) (Assign rd v pc) (λ t. tt) (λ f. (above-zero rd f, h))
+
+binary-reach : (w : ℕ) (op : Op) (rd pc : ℕ) (a b : Value) → rd < 32 → InReach w (binaryOp op rd pc a b)
+unfolding binaryOp
+binary-reach w op rd pc (Concrete a) (Concrete b) h = assign-reach w rd (Concrete (operated op a b)) (next pc) h
+binary-reach w op rd pc (Concrete a) Uninitialized h = tt
+binary-reach w op rd pc Uninitialized b h = tt
+
+divu-remu-reach : (w : ℕ) (op : Op) (rd pc : ℕ) (a b : Value) → rd < 32 → InReach w (divuRemu op rd pc a b)
+unfolding divuRemu
+divu-remu-reach w op rd pc a b h =
+    chosen w (isZero b) (bug DivisionByZero) (binaryOp op rd pc a b) (λ t. tt) (λ f. binary-reach w op rd pc a b h)
+
+beq-reach : (w imm pc : ℕ) (a b : Value) → InReach w (beq imm pc a b)
+unfolding beq
+beq-reach w imm pc (Concrete a) (Concrete b) = tt
+beq-reach w imm pc (Concrete a) Uninitialized = tt
+beq-reach w imm pc Uninitialized b = tt
+
+jalr-reach : (w rd imm pc : ℕ) (base : Value) → rd < 32 → InReach w (jalr rd imm pc base)
+unfolding jalr
+jalr-reach w rd imm pc (Concrete base) h = assign-reach w rd (Concrete (next pc)) (add base imm) h
+jalr-reach w rd imm pc Uninitialized h = tt
+
+-- an access that names a word names one below W
+abbrev Below : ℕ → Access → Type 0
+Below w (Word m) = m < w
+Below w (Invalid b) = Unit {0}
+
+access-below : (address w : ℕ) → Below w (access address w)
+unfolding access
+access-below address w = aligned (eqb (address % 8) 0)
+  where
+    inside : (b : Bool) → b ≡ ltb (address / 8) w → Below w (cond b (Word (address / 8)) (Invalid AccessToOutOfRangeAddress))
+    inside true t = ltb-true (address / 8) w (sym t)
+    inside false t = tt
+
+    aligned : (b : Bool) → Below w (cond b (cond (ltb (address / 8) w) (Word (address / 8)) (Invalid AccessToOutOfRangeAddress)) (Invalid (AccessToUnalignedAddress address)))
+    aligned true = inside (ltb (address / 8) w) refl
+    aligned false = tt
+
+load-reach : (w : ℕ) (a : Access) (rd pc : ℕ) → rd < 32 → Below w a → InReach w (loadFrom a rd pc)
+unfolding loadFrom
+load-reach w (Word m) rd pc h k = chosen w (eqb rd 0) (Jump pc) (Load rd m pc) (λ t. tt) (λ f. (above-zero rd f, h, k))
+load-reach w (Invalid b) rd pc h k = tt
+
+ld-reach : (w rd imm pc : ℕ) (base : Value) → rd < 32 → InReach w (ld rd imm pc base w)
+unfolding ld
+ld-reach w rd imm pc (Concrete base) h = load-reach w (access (add base imm) w) rd (next pc) h (access-below (add base imm) w)
+ld-reach w rd imm pc Uninitialized h = tt
+
+store-reach : (w : ℕ) (a : Access) (v : Value) (pc : ℕ) → Below w a → InReach w (storeTo a v pc)
+unfolding storeTo
+store-reach w (Word m) v pc k = k
+store-reach w (Invalid b) v pc k = tt
+
+sd-reach : (w imm pc : ℕ) (base v : Value) → InReach w (sd imm pc base v w)
+unfolding sd
+sd-reach w imm pc (Concrete base) v = store-reach w (access (add base imm) w) v (next pc) (access-below (add base imm) w)
+sd-reach w imm pc Uninitialized v = tt
+
+pub in-reach : (i : Instruction) (pc : ℕ) (x : ℕ → Value) (w : ℕ) → Registers i → InReach w (effectOf i pc x w)
+unfolding effectOf
+in-reach (instruction.Lui t) pc x w h = assign-reach w (t .rd) (Concrete (t .imm)) (next pc) h
+in-reach (instruction.Jal t) pc x w h = assign-reach w (t .rd) (Concrete (next pc)) (add pc (t .imm)) h
+in-reach (instruction.Jalr t) pc x w h = jalr-reach w (t .rd) (t .imm) pc (x (t .rs1)) (h .rd)
+in-reach (instruction.Beq t) pc x w h = beq-reach w (t .imm) pc (x (t .rs1)) (x (t .rs2))
+in-reach (instruction.Ld t) pc x w h = ld-reach w (t .rd) (t .imm) pc (x (t .rs1)) (h .rd)
+in-reach (instruction.Sd t) pc x w h = sd-reach w (t .imm) pc (x (t .rs1)) (x (t .rs2))
+in-reach (instruction.Addi t) pc x w h = binary-reach w Add (t .rd) pc (x (t .rs1)) (Concrete (t .imm)) (h .rd)
+in-reach (instruction.Add t) pc x w h = binary-reach w Add (t .rd) pc (x (t .rs1)) (x (t .rs2)) (h .rd)
+in-reach (instruction.Sub t) pc x w h = binary-reach w Sub (t .rd) pc (x (t .rs1)) (x (t .rs2)) (h .rd)
+in-reach (instruction.Mul t) pc x w h = binary-reach w Mul (t .rd) pc (x (t .rs1)) (x (t .rs2)) (h .rd)
+in-reach (instruction.Sltu t) pc x w h = binary-reach w Sltu (t .rd) pc (x (t .rs1)) (x (t .rs2)) (h .rd)
+in-reach (instruction.Divu t) pc x w h = divu-remu-reach w Divu (t .rd) pc (x (t .rs1)) (x (t .rs2)) (h .rd)
+in-reach (instruction.Remu t) pc x w h = divu-remu-reach w Remu (t .rd) pc (x (t .rs1)) (x (t .rs2)) (h .rd)
+in-reach instruction.Ecall pc x w h = tt

@@ -1,0 +1,3 @@
+// The row of one executor, lent as two slices: its words and its marks. For the layers above.
+pub mod execute;
+pub mod row;
