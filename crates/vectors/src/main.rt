@@ -1,0 +1,62 @@
+// Replays two lists that were made outside this project, by tools/vectors: what words decode to by the GNU tools, and what
+// instructions do by qemu. Says of each list how many of its lines agree with this project's functions.
+mod columns;
+mod decodings;
+mod list;
+mod results;
+mod tally;
+
+use libc::STDOUT_FILENO;
+use list::List;
+use tally::Tally;
+
+fn print(text: &[u8]) {
+    io::write_all(STDOUT_FILENO, text);
+}
+
+fn print_number(n: u64) {
+    io::print_decimal(STDOUT_FILENO, n);
+}
+
+// Replays the list of this name. One that is missing is told, and has no lines.
+fn replay(name: &[u8], list: List) -> Tally {
+    let fd = os::open_read(name);
+    if fd < 0 {
+        print(name);
+        print(b": cannot be opened\n");
+        return Tally::new();
+    }
+    let tally = list::replay(fd, list);
+    libc::close(fd);
+    tally
+}
+
+fn print_agreeing(name: &[u8], t: Tally) {
+    print(name);
+    print(b": ");
+    print_number(t.agree);
+    print(b" of ");
+    print_number(t.lines);
+    print(b" agree");
+}
+
+fn print_departures(t: Tally) {
+    print(b", ");
+    print_number(t.departures);
+    print(b" of them departures from the manual: ");
+    print_number(t.lui);
+    print(b" lui, ");
+    print_number(t.jalr);
+    print(b" jalr, ");
+    print_number(t.zero_divisors);
+    print(b" zero divisors");
+}
+
+fn main() {
+    print_agreeing(b"decodings", replay(b"decodings", List::Decodings));
+    print(b"\n");
+    let results = replay(b"results", List::Results);
+    print_agreeing(b"results", results);
+    print_departures(results);
+    print(b"\n");
+}
