@@ -1,0 +1,4 @@
+pub mod Choices
+pub mod Ranges
+pub mod Concrete
+pub mod Kept

@@ -1,0 +1,4 @@
+// The system calls on a row (the Rust's execute_ecall and the calls below it). For the layers above.
+pub mod step;
+pub mod system;
+pub mod transfer;

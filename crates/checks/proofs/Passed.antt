@@ -1,0 +1,40 @@
+-- What an entry knows from a test that passed.
+use mathlib.Core.Path.{_≡_}
+use mathlib.Core.Bool.{true, _&&_, and-eq-true-iff}
+use Prim.Native.Nat.{ℕ, _+_, _*_, _/_, _%_, _^_, _<_, _≤_}
+use native.Mathlib.Omega.{arith}
+use borrow.Author.Tests.{eqb-true, leb-true, ne-eqb}
+use lib.Dec.{eqb, leb}
+use Rattle.rows.specs.Rows.{Row, limitOf}
+use Rattle.rows.specs.Valid.{soundRow, validRow}
+use Rattle.checks.specs.Refusals.{isMemorySize, isLogSize, rowWords, rowMarks, areLengths, isWhole, isInside}
+
+pub memory-size : (bytes : ℕ) → isMemorySize bytes ≡ true → (bytes % 1024 ≡ 0) × (1024 ≤ bytes) × (bytes ≤ 1048576)
+memory-size bytes h =
+    let whole = eqb (bytes % 1024) 0 in
+    let enough = leb 1024 bytes in
+    let outer = and-eq-true-iff (whole && enough) (leb bytes 1048576) .0 h in
+    let inner = and-eq-true-iff whole enough .0 (outer .0) in
+    (eqb-true _ _ (inner .0), leb-true _ _ (inner .1), leb-true _ _ (outer .1))
+
+pub log-size : (l : ℕ) → isLogSize l ≡ true → l ≤ 65536
+log-size l h = leb-true _ _ h
+
+pub lengths : (rows w l words marks : ℕ) → areLengths rows w l words marks ≡ true → (words ≡ rows * rowWords w l) × (marks ≡ rows * rowMarks w)
+lengths rows w l words marks h =
+    let both = and-eq-true-iff (eqb words (rows * rowWords w l)) (eqb marks (rows * rowMarks w)) .0 h in
+    (eqb-true _ _ (both .0), eqb-true _ _ (both .1))
+
+pub whole : (bytes : ℕ) → isWhole bytes ≡ true → bytes % 8 ≡ 0
+whole bytes h = eqb-true _ _ h
+
+pub inside : (w address bytes : ℕ) → isInside w address bytes ≡ true → 0 < bytes → address / 8 + bytes / 8 ≤ w
+inside w address bytes h k = leb-true _ _ (rw (ne-eqb bytes 0 (λ e. omega arith)) at h)
+
+pub valid-sound : (r : Row) → validRow r ≡ true → soundRow r ≡ true
+unfolding validRow
+valid-sound r h = and-eq-true-iff (soundRow r) (leb (limitOf r) (2 ^ 63)) .0 h .0
+
+pub valid-limit : (r : Row) → validRow r ≡ true → limitOf r ≤ 2 ^ 63
+unfolding validRow
+valid-limit r h = leb-true _ _ (and-eq-true-iff (soundRow r) (leb (limitOf r) (2 ^ 63)) .0 h .1)

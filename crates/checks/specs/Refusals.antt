@@ -1,0 +1,40 @@
+-- What an entry refuses before it changes anything ("Where each number is given" in document 01), one test a number.
+use mathlib.Core.Bool.{Bool, _&&_, _||_}
+use Prim.Native.Nat.{ℕ, _+_, _*_, _/_, _%_}
+use lib.Dec.{eqb, leb}
+use Rattle.checks.specs.declared.refusal.Refusal.{Refusal}
+use Rattle.checks.specs.declared.refusal.Refusal.the-variants.{MemorySize, LogSize, LentLengths, SegmentLength, SegmentEnd, InvalidRow}
+
+abbrev pub refusalNumber : Refusal → ℕ
+refusalNumber MemorySize = 1
+refusalNumber LogSize = 4
+refusalNumber LentLengths = 5
+refusalNumber SegmentLength = 6
+refusalNumber SegmentEnd = 7
+refusalNumber InvalidRow = 9
+
+-- 1: memory not a multiple of 1024 in 1024 to 1,048,576
+abbrev pub isMemorySize : ℕ → Bool
+isMemorySize bytes = eqb (bytes % 1024) 0 && leb 1024 bytes && leb bytes 1048576
+
+-- 4: L above 65,536
+abbrev pub isLogSize : ℕ → Bool
+isLogSize l = leb l 65536
+
+-- 5: lent lengths not exact, for so many rows of W memory words and L log words
+abbrev pub rowWords : ℕ → ℕ → ℕ
+rowWords w l = 37 + w + l
+
+abbrev pub rowMarks : ℕ → ℕ
+rowMarks w = 32 + w
+
+abbrev pub areLengths : ℕ → ℕ → ℕ → ℕ → ℕ → Bool
+areLengths rows w l words marks = eqb words (rows * rowWords w l) && eqb marks (rows * rowMarks w)
+
+-- 6: a segment's length not a multiple of 8
+abbrev pub isWhole : ℕ → Bool
+isWhole bytes = eqb (bytes % 8) 0
+
+-- 7: a non-empty segment ends past memory
+abbrev pub isInside : ℕ → ℕ → ℕ → Bool
+isInside w address bytes = eqb bytes 0 || leb (address / 8 + bytes / 8) w

@@ -1,0 +1,3 @@
+// The tests that entries make before they change anything. For the layers above.
+pub mod refusal;
+pub mod valid_row;

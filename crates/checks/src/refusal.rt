@@ -1,0 +1,73 @@
+// Refusals by number, and the tests for all but 9.
+ghost use mathlib.Core.Path.{_≡_};
+ghost use Prim.Native.Nat.{_≤_};
+ghost use Rattle.checks.specs.Refusals.{refusalNumber, isMemorySize, isLogSize, areLengths, isWhole, isInside};
+
+// Why an entry refuses, in the order in which it tests.
+pub enum Refusal {
+    MemorySize,
+    LogSize,
+    LentLengths,
+    SegmentLength,
+    SegmentEnd,
+    InvalidRow,
+}
+
+pub enum Checked {
+    Accepted,
+    Refused(Refusal),
+}
+
+impl Refusal {
+    pub fn number(self) -> u64
+        ensures { λ r. ⌜ r ≡ refusalNumber self ⌝ }
+    {
+        match self {
+            Refusal::MemorySize => 1,
+            Refusal::LogSize => 4,
+            Refusal::LentLengths => 5,
+            Refusal::SegmentLength => 6,
+            Refusal::SegmentEnd => 7,
+            Refusal::InvalidRow => 9,
+        }
+    }
+}
+
+pub fn is_memory_size(bytes: u64) -> bool
+    ensures { λ r. ⌜ r ≡ isMemorySize bytes ⌝ }
+{
+    if bytes % 1024 != 0 {
+        return false;
+    }
+    if bytes < 1024 {
+        return false;
+    }
+    bytes <= 1_048_576
+}
+
+pub fn is_log_size(words: u64) -> bool
+    ensures { λ r. ⌜ r ≡ isLogSize words ⌝ }
+{
+    words <= 65_536
+}
+
+// Whether words and marks of these lengths hold just so many rows of `memory` memory words and `log` log words.
+pub fn are_lengths(rows: u64, memory: u64, log: u64, words: u64, marks: u64) -> bool
+    requires { ⌜ rows ≤ 4096 ⌝ ∗ ⌜ memory ≤ 131072 ⌝ ∗ ⌜ log ≤ 65536 ⌝ }
+    ensures { λ r. ⌜ r ≡ areLengths rows memory log words marks ⌝ }
+{
+    words == rows * (37 + memory + log) && marks == rows * (32 + memory)
+}
+
+pub fn is_whole(bytes: u64) -> bool
+    ensures { λ r. ⌜ r ≡ isWhole bytes ⌝ }
+{
+    bytes % 8 == 0
+}
+
+// Whether a segment of so many bytes lies in a memory of `memory` words, or has none.
+pub fn is_inside(memory: u64, address: u64, bytes: u64) -> bool
+    ensures { λ r. ⌜ r ≡ isInside memory address bytes ⌝ }
+{
+    bytes == 0 || address / 8 + bytes / 8 <= memory
+}

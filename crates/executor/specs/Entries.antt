@@ -1,0 +1,90 @@
+-- The entries over one lent row: a new executor, and a run. What is refused changes nothing.
+use mathlib.Core.Bool.{cond, not, _&&_}
+use mathlib.Core.List.{List}
+use Prim.Native.Nat.{ℕ, _/_}
+use lib.ListN.{length}
+use Rattle.answers.specs.Numbers.{progressNumber, progressValue}
+use Rattle.answers.specs.declared.outcome.Outcome.the-variants.{Exited, Found, Failed}
+use Rattle.answers.specs.declared.outcome.Progress.{Progress}
+use Rattle.answers.specs.declared.outcome.Progress.the-variants.{Running, Ended}
+use Rattle.rows.specs.Rows.{Row, row}
+use Rattle.loader.specs.Loading.{Program, newExecutor}
+use Rattle.machine.specs.Runs.{runOf}
+use Rattle.machine.specs.declared.run.Ran.{Ran}
+use Rattle.checks.specs.Refusals.{refusalNumber, isMemorySize, isLogSize, areLengths, isWhole, isInside}
+use Rattle.rows.specs.Valid.{validRow}
+use Rattle.checks.specs.declared.refusal.Refusal.the-variants.{MemorySize, LogSize, LentLengths, SegmentLength, SegmentEnd, InvalidRow}
+use Rattle.checks.specs.declared.refusal.Checked.{Checked}
+use Rattle.checks.specs.declared.refusal.Checked.the-variants as checked
+use Rattle.executor.specs.declared.RunAnswer.{RunAnswer}
+use Rattle.executor.specs.declared.RunAnswer.the-variants as answer
+
+-- a number's refusal where its test fails, else the tests that follow
+abbrev pub sizesThen : ℕ → ℕ → Row → Checked → Checked
+sizesThen memory log r next =
+    cond (isMemorySize memory)
+    (cond (isLogSize log)
+    (cond (areLengths 1 (memory / 8) log (length (r .words)) (length (r .marks))) next (checked.Refused LentLengths))
+    (checked.Refused LogSize))
+    (checked.Refused MemorySize)
+
+-- 6 for either segment, then 7 for either
+abbrev pub segmentsChecked : ℕ → Program → Checked
+segmentsChecked w p =
+    cond (isWhole (length (p .codeSegment .content)) && isWhole (length (p .dataSegment .content)))
+    (cond
+    (isInside w (p .codeSegment .address) (length (p .codeSegment .content)) && isInside w (p .dataSegment .address) (length (p .dataSegment .content)))
+    checked.Accepted
+    (checked.Refused SegmentEnd))
+    (checked.Refused SegmentLength)
+
+-- a new executor: 1, 4, 5, 6, 7
+unfoldable pub creationChecked : ℕ → ℕ → Program → Row → Checked
+creationChecked memory log p r = sizesThen memory log r (segmentsChecked (memory / 8) p)
+
+-- the row afterwards
+unfoldable pub createdRow : Checked → Program → Row → Row
+createdRow checked.Accepted p r = newExecutor p (length (r .words)) (length (r .marks))
+createdRow (checked.Refused f) p r = r
+
+-- a run: 1, 4, 5, 9
+unfoldable pub runChecked : ℕ → ℕ → Row → Checked
+runChecked memory log r = sizesThen memory log r (cond (validRow r) checked.Accepted (checked.Refused InvalidRow))
+
+pub record Answered : Type 0 where
+  pub row : Row
+  pub answer : RunAnswer
+
+abbrev pub answered : List ℕ → List ℕ → RunAnswer → Answered
+answered words marks a = record { row = row words marks; answer = a }
+
+-- an accepted run starts at the front of the tape
+unfoldable pub runAnswered : Checked → ℕ → List ℕ → Row → Answered
+runAnswered checked.Accepted step tape r = let x = runOf step tape 0 r in record { row = x .row; answer = answer.Ran (x .ran) }
+runAnswered (checked.Refused f) step tape r = record { row = r; answer = answer.Refused f }
+
+unfoldable pub runEntry : ℕ → ℕ → ℕ → List ℕ → Row → Answered
+runEntry memory log step tape r = runAnswered (runChecked memory log r) step tape r
+
+-- document 01's number, pc, value and used count of a run's answer; the row is 0, and what has no use is 0
+abbrev pub pcOfEnd : Progress → ℕ → ℕ
+pcOfEnd Running pc = pc
+pcOfEnd (Ended Exited) pc = 0
+pcOfEnd (Ended (Found b)) pc = pc
+pcOfEnd (Ended (Failed e)) pc = pc
+
+abbrev pub answerNumber : RunAnswer → ℕ
+answerNumber (answer.Refused f) = refusalNumber f
+answerNumber (answer.Ran x) = progressNumber (x .progress)
+
+abbrev pub answerPc : RunAnswer → ℕ
+answerPc (answer.Refused f) = 0
+answerPc (answer.Ran x) = pcOfEnd (x .progress) (x .pc)
+
+abbrev pub answerValue : RunAnswer → ℕ
+answerValue (answer.Refused f) = 0
+answerValue (answer.Ran x) = progressValue (x .progress)
+
+abbrev pub answerUsed : RunAnswer → ℕ
+answerUsed (answer.Refused f) = 0
+answerUsed (answer.Ran x) = x .used

@@ -1,0 +1,183 @@
+// One executor for hosts: its row is lent, and nothing is asked of the caller.
+// Words are exactly 37 + W + L and marks 32 + W, W being the memory bytes over 8 and L the log words; what is
+// refused changes nothing.
+ghost use mathlib.Core.Path.{_≡_};
+ghost use Prim.Native.Nat.{_/_};
+ghost use Rattle.rows.specs.Rows.{row};
+ghost use Rattle.loader.specs.Loading.{segment, program};
+ghost use Rattle.executor.specs.Entries.{creationChecked, createdRow, segmentsChecked, sizesThen, runChecked, runEntry, answered};
+ghost use Rattle.executor.specs.Entries.{pcOfEnd, answerNumber, answerPc, answerValue, answerUsed};
+use answers::outcome::Outcome;
+use answers::outcome::Progress;
+use checks::refusal::Checked;
+use checks::refusal::Refusal;
+use checks::refusal::are_lengths;
+use checks::refusal::is_inside;
+use checks::refusal::is_log_size;
+use checks::refusal::is_memory_size;
+use checks::refusal::is_whole;
+use checks::valid_row::valid_row;
+use machine::run::Ran;
+
+pub enum RunAnswer {
+    Refused(Refusal),
+    Ran(Ran),
+}
+
+const ONE_ROW: u64 = 1;
+
+fn check_sizes(words: &[u64], marks: &[u8], memory: u64, log: u64) -> Checked
+    ensures { λ r. ⌜ r ≡ sizesThen memory log (row (now (words .entry)) (now (marks .entry))) Checked.Accepted ⌝ }
+{
+    if !is_memory_size(memory) {
+        return Checked::Refused(Refusal::MemorySize);
+    }
+    if !is_log_size(log) {
+        return Checked::Refused(Refusal::LogSize);
+    }
+    if !are_lengths(
+        ONE_ROW,
+        memory / 8,
+        log,
+        words.len() as u64,
+        marks.len() as u64,
+    ) {
+        return Checked::Refused(Refusal::LentLengths);
+    }
+    Checked::Accepted
+}
+
+fn check_segments(
+    memory: u64,
+    code_address: u64,
+    code: &[u8],
+    data_address: u64,
+    data: &[u8],
+) -> Checked
+    ensures { λ r. ⌜ r ≡ segmentsChecked memory (program (segment «code_address» (now (code .entry))) (segment «data_address» (now («data» .entry)))) ⌝ }
+{
+    let code_length = code.len() as u64;
+    let data_length = data.len() as u64;
+    if !is_whole(code_length) {
+        return Checked::Refused(Refusal::SegmentLength);
+    }
+    if !is_whole(data_length) {
+        return Checked::Refused(Refusal::SegmentLength);
+    }
+    if !is_inside(memory, code_address, code_length) {
+        return Checked::Refused(Refusal::SegmentEnd);
+    }
+    if !is_inside(memory, data_address, data_length) {
+        return Checked::Refused(Refusal::SegmentEnd);
+    }
+    Checked::Accepted
+}
+
+// Makes a new executor of a program in a lent row.
+pub fn new_executor(
+    words: &mut [u64],
+    marks: &mut [u8],
+    memory: u64,
+    log: u64,
+    code_address: u64,
+    code: &[u8],
+    data_address: u64,
+    data: &[u8],
+) -> Checked
+    ensures { λ r. ⌜ r ≡ creationChecked memory log (program (segment «code_address» (now (code .entry))) (segment «data_address» (now («data» .entry)))) (row (now (words .entry)) (now (marks .entry))) ⌝ ∗ ⌜ row (now (words .exit)) (now (marks .exit)) ≡ createdRow r (program (segment «code_address» (now (code .entry))) (segment «data_address» (now («data» .entry)))) (row (now (words .entry)) (now (marks .entry))) ⌝ }
+{
+    let sizes = check_sizes(words, marks, memory, log);
+    let Checked::Accepted = sizes else {
+        return sizes;
+    };
+    let segments = check_segments(memory / 8, code_address, code, data_address, data);
+    let Checked::Accepted = segments else {
+        return segments;
+    };
+    loader::new_executor(words, marks, code_address, code, data_address, data);
+    Checked::Accepted
+}
+
+// Runs a lent row for at most `step` instructions more, on a lent tape from its front.
+pub fn run(
+    words: &mut [u64],
+    marks: &mut [u8],
+    memory: u64,
+    log: u64,
+    step: u32,
+    tape: &[u64],
+) -> RunAnswer
+    ensures { λ r. ⌜ answered (now (words .exit)) (now (marks .exit)) r ≡ runEntry memory log step (now (tape .entry)) (row (now (words .entry)) (now (marks .entry))) ⌝ }
+{
+    let sizes = check_sizes(words, marks, memory, log);
+    match sizes {
+        Checked::Accepted => {
+            if valid_row(words, marks) {
+                RunAnswer::Ran(machine::run::run(words, marks, step, tape, 0))
+            } else {
+                RunAnswer::Refused(Refusal::InvalidRow)
+            }
+        }
+        Checked::Refused(refusal) => RunAnswer::Refused(refusal),
+    }
+}
+
+fn pc_of_end(progress: Progress, pc: u64) -> u64
+    ensures { λ r. ⌜ r ≡ pcOfEnd progress pc ⌝ }
+{
+    match progress {
+        Progress::Running => pc,
+        Progress::Ended(outcome) => match outcome {
+            Outcome::Exited => 0,
+            Outcome::Found(_) => pc,
+            Outcome::Failed(_) => pc,
+        },
+    }
+}
+
+impl RunAnswer {
+    pub fn number(self) -> u64
+        ensures { λ r. ⌜ r ≡ answerNumber self ⌝ }
+    {
+        match self {
+            RunAnswer::Refused(refusal) => refusal.number(),
+            RunAnswer::Ran(ran) => {
+                let progress = ran.progress;
+                progress.number()
+            }
+        }
+    }
+
+    pub fn pc(self) -> u64
+        ensures { λ r. ⌜ r ≡ answerPc self ⌝ }
+    {
+        match self {
+            RunAnswer::Refused(_) => 0,
+            RunAnswer::Ran(ran) => {
+                let progress = ran.progress;
+                pc_of_end(progress, ran.pc)
+            }
+        }
+    }
+
+    pub fn value(self) -> u64
+        ensures { λ r. ⌜ r ≡ answerValue self ⌝ }
+    {
+        match self {
+            RunAnswer::Refused(_) => 0,
+            RunAnswer::Ran(ran) => {
+                let progress = ran.progress;
+                progress.value()
+            }
+        }
+    }
+
+    pub fn used(self) -> usize
+        ensures { λ r. ⌜ r ≡ answerUsed self ⌝ }
+    {
+        match self {
+            RunAnswer::Refused(_) => 0,
+            RunAnswer::Ran(ran) => ran.used,
+        }
+    }
+}

@@ -1,0 +1,13 @@
+pub mod Runs
+pub mod Lengths
+pub mod Alike
+pub mod AlikeReading
+pub mod AlikeCalls
+pub mod AlikeSteps
+pub mod AlikeLimits
+pub mod Limits
+pub mod Invariant
+pub mod SlotLists
+pub mod SoundFacts
+pub mod SoundWrites
+pub mod Sound

@@ -1,0 +1,4 @@
+pub mod Segments
+pub mod Lengths
+pub mod Zeros
+pub mod Kept

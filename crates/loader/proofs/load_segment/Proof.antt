@@ -1,0 +1,78 @@
+use mathlib.Core.Path.{_≡_, refl, _∙_}
+use Prim.Native.Nat.{_-_, _≤_}
+use native.Mathlib.Omega.{arith}
+use borrow.Author.Needs.{needs}
+use lib.ListN.{length}
+use Rattle.rows.specs.Rows.{row, Shape}
+use Rattle.loader.specs.Loading.{loadedFrom, loaded}
+use Rattle.loader.proofs.Lengths.{same-shape}
+use Rattle.loader.proofs.Segments.{load-on, load-all, load-none}
+use Rattle.loader.proofs.load_segment.Statement.{statement}
+use Rattle.loader.proofs.load_segment.Tie as tie
+
+-- the lengths are kept, and loading what is left comes to what loading all of it would have come to
+abbrev Inv-loop : tie.InvT-loop
+Inv-loop words₀ marks₀ address bytes n m k₀ words marks k = (Shape words marks) × (length words ≡ length words₀) × (length marks ≡ length marks₀) × (k ≤ n) × (loadedFrom (n - k) k m bytes (row words marks) ≡ loadedFrom (n - k₀) k₀ m bytes (row words₀ marks₀))
+
+abbrev μ-loop : tie.MeasureT-loop
+μ-loop words₀ marks₀ address bytes n m k₀ words marks k = n - k
+
+loop-holds : tie.Need-loop-holds Inv-loop μ-loop
+loop-holds c = (c .before .before .before .pre .0, refl, refl, omega arith, refl)
+
+add-write-slot : tie.Need-add-write-slot Inv-loop μ-loop
+add-write-slot c = omega (arith, c .before .before .before .before .before .before .before .pre .1 .inside (omega arith), c .before .before .before .loop .inv .2)
+
+add-write-slot-2 : tie.Need-add-write-slot-2 Inv-loop μ-loop
+add-write-slot-2 c = omega (arith, c .before .before .before .before .before .before .before .pre .1 .inside (omega arith), c .before .before .before .loop .inv .2)
+
+mul-word-at : tie.Need-mul-word-at Inv-loop μ-loop
+mul-word-at c = omega arith
+
+word-at-requires : tie.Need-word-at-requires Inv-loop μ-loop
+word-at-requires c κs = omega arith
+
+write-slot-requires : tie.Need-write-slot-requires Inv-loop μ-loop
+write-slot-requires c κs = (c .before .before .before .before .loop .inv .0, omega (arith, c .before .before .before .before .before .before .before .before .pre .1 .inside (omega arith), c .before .before .before .before .loop .inv .2))
+
+add-k : tie.Need-add-k Inv-loop μ-loop
+add-k c = omega arith
+
+loop-less : tie.Need-loop-less Inv-loop μ-loop
+loop-less c = omega arith
+
+loop-again : tie.Need-loop-again Inv-loop μ-loop
+loop-again c =
+    let l = c .before .before .before .before .before .before .before .before .before .loop in
+    let w = c .before .before .before .before .write-slot .kept .0 in
+    let m = c .before .before .before .before .write-slot .kept .1 .0 in
+    (same-shape (l .words) _ (l .marks) _ w m (l .inv .0), w ∙ l .inv .1, m ∙ l .inv .2, omega arith, load-on _ _ _ _ (row (l .words) (l .marks)) _ _ (c .before .before .before .before .before .before .before .before .loop-test .taken) (c .before .before .before .before .before .word-at .ensures) (c .before .before .before .before .write-slot .ensures) ∙ l .inv .4)
+
+same-length : tie.Need-same-length Inv-loop μ-loop
+same-length c = search needs
+
+same-length-2 : tie.Need-same-length-2 Inv-loop μ-loop
+same-length-2 c = search needs
+
+returns : tie.Need-returns Inv-loop μ-loop
+unfolding loaded
+returns c = load-all _ _ _ _ _ (c .loop-test .left) ∙ c .before .loop .inv .4 ∙ load-none _ _ _ _
+
+pub load-segment-spec : {M : Type 1} → statement M
+load-segment-spec =
+    tie.close
+    (tie.spec
+    Inv-loop
+    μ-loop
+    loop-holds
+    add-write-slot
+    add-write-slot-2
+    mul-word-at
+    word-at-requires
+    write-slot-requires
+    add-k
+    loop-less
+    loop-again
+    same-length
+    same-length-2
+    returns)

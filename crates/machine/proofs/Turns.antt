@@ -1,0 +1,53 @@
+-- The turns of a run: what each leaves of `runFor` is what the run still has to do.
+use mathlib.Core.Path.{_≡_, refl, sym, ap, _∙_, subst}
+use mathlib.Core.List.{List}
+use Prim.Native.Nat.{ℕ, suc, _+_, _-_, _≤_, _<_}
+use native.Mathlib.Omega.{arith}
+use lib.ListN.{length, getD}
+use lib.Seq.{getD-set-other}
+use Rattle.answers.specs.declared.outcome.Outcome.{Outcome}
+use Rattle.answers.specs.declared.outcome.Progress.the-variants.{Running, Ended}
+use Rattle.rows.specs.Rows.{Row, row, pcOf, depthOf, limitOf, setLimit}
+use Rattle.reading.specs.Reading.{Reached}
+use Rattle.machine.specs.Steps.{advanced}
+use Rattle.machine.specs.Runs.{Finished, stops, continued, runFor, runOf}
+use Rattle.machine.proofs.Kept.{advanced-depth}
+
+-- at the limit
+pub at-limit : (limit : ℕ) (tape : List ℕ) (used : ℕ) (r : Row) → limit ≤ depthOf r → stops Running (pcOf r) used r ≡ runFor (limit - depthOf r) tape used r
+unfolding runFor
+at-limit limit tape used r h = rw (none limit (depthOf r) h)
+  where
+    none : (a b : ℕ) → a ≤ b → a - b ≡ 0
+    none a b h = omega arith
+
+-- an instruction before the limit
+before-limit : (limit : ℕ) (tape : List ℕ) (used : ℕ) (r : Row) → depthOf r < limit →
+    runFor (limit - depthOf r) tape used r
+    ≡ continued (runFor (limit - (depthOf r + 1)) tape) (pcOf r) (advanced tape used r .moved .progress) (advanced tape used r .moved .used) (advanced tape used r .row)
+unfolding runFor
+before-limit limit tape used r h = rw (one-more limit (depthOf r) h)
+  where
+    one-more : (a b : ℕ) → b < a → a - b ≡ suc (a - (b + 1))
+    one-more a b h = omega arith
+
+-- x is what the instruction came to
+module _ (limit : ℕ) (tape : List ℕ) (used : ℕ) (r : Row) (x : Reached) (h : depthOf r < limit) (e : x ≡ advanced tape used r) where
+  -- it goes on
+  pub turned : 2 < length (r .words) → x .moved .progress ≡ Running → runFor (limit - depthOf (x .row)) tape (x .moved .used) (x .row) ≡ runFor (limit - depthOf r) tape used r
+  unfolding continued
+  turned l p =
+      ap (λ (d : ℕ). runFor (limit - d) tape (x .moved .used) (x .row)) (ap (λ (y : Reached). depthOf (y .row)) e ∙ advanced-depth tape used r l)
+      ∙ sym (before-limit limit tape used r h ∙ rw (← e, p))
+
+  -- it ends
+  pub stopped : (o : Outcome) → x .moved .progress ≡ Ended o → stops (Ended o) (pcOf r) (x .moved .used) (x .row) ≡ runFor (limit - depthOf r) tape used r
+  unfolding continued
+  stopped o p = sym (before-limit limit tape used r h ∙ rw (← e, p))
+
+-- a run starts with its limit grown
+pub started : (step : ℕ) (tape : List ℕ) (used : ℕ) (r : Row) →
+    runFor (limitOf r + step - depthOf (setLimit (limitOf r + step) r)) tape used (setLimit (limitOf r + step) r) ≡ runOf step tape used r
+unfolding runOf
+started step tape used r =
+    ap (λ (d : ℕ). runFor (limitOf r + step - d) tape used (setLimit (limitOf r + step) r)) (getD-set-other (r .words) 3 2 (limitOf r + step) 0 (λ e. omega arith))

@@ -1,0 +1,4 @@
+// The machine that bench and printer share: fetch, step and run of one executor (the Rust's Executor::run and below).
+// For the layers above.
+pub mod run;
+pub mod step;

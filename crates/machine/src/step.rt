@@ -1,0 +1,156 @@
+// One instruction of an executor.
+ghost use mathlib.Core.Path.{_≡_};
+ghost use Prim.Native.Nat.{_+_, _<_, _^_};
+ghost use Rattle.riscu.specs.Registers.{RegistersIn};
+ghost use Rattle.rows.specs.Rows.{row, Shape, depthOf};
+ghost use Rattle.reading.specs.Reading.{reached};
+ghost use Rattle.calls.specs.Calls.{called};
+ghost use Rattle.machine.specs.Steps.{halfAt, fetched, followed, executed, interpreted, stepped as steppedOf, finished, advanced};
+use answers::error::ExecutorError;
+use answers::error::NotSupportedReason;
+use answers::outcome::Outcome;
+use answers::outcome::Progress;
+use calls::step::Step;
+use calls::step::Stepped;
+use calls::system::complete_write;
+use calls::system::execute_ecall;
+use effects::value::Value;
+use reading::Moved;
+use riscu::decode::decode;
+use riscu::instruction::Decoded;
+use rows::execute::Next;
+use rows::execute::execute;
+use rows::row::DEPTH;
+use rows::row::PC;
+use rows::row::REGISTERS;
+use rows::row::read_slot;
+
+const HALF: u64 = 0x1_0000_0000;
+
+pub enum Fetched {
+    Word(u32),
+    Refused(ExecutorError),
+}
+
+fn half_at(pc: u64, value: Value) -> Fetched
+    ensures { λ r. ⌜ r ≡ halfAt pc value ⌝ }
+{
+    let Value::Concrete(x) = value else {
+        return Fetched::Refused(ExecutorError::NotSupported(
+            NotSupportedReason::FetchUninitializedWord,
+        ));
+    };
+    if pc % 8 == 0 {
+        Fetched::Word((x % HALF) as u32)
+    } else {
+        Fetched::Word((x / HALF) as u32)
+    }
+}
+
+fn fetch(words: &[u64], marks: &[u8]) -> Fetched
+    requires { ⌜ Shape (now words) (now marks) ⌝ }
+    ensures { λ r. ⌜ r ≡ fetched (row (now (words .entry)) (now (marks .entry))) ⌝ }
+{
+    let pc = words[PC];
+    let m = (pc / 8) as usize;
+    if m < marks.len() - REGISTERS {
+        half_at(pc, read_slot(words, marks, REGISTERS + m))
+    } else {
+        Fetched::Refused(ExecutorError::PcOutOfRange)
+    }
+}
+
+fn follow(words: &mut [u64], marks: &mut [u8], next: Next, tape: &[u64], used: usize) -> Stepped
+    requires { ⌜ Shape (now words) (now marks) ⌝ }
+    ensures { λ r. ⌜ called (now (words .exit)) (now (marks .exit)) r ≡ followed next (now (tape .entry)) used (row (now (words .entry)) (now (marks .entry))) ⌝ }
+{
+    match next {
+        Next::Instruction => Stepped {
+            step: Step::Running,
+            used,
+        },
+        Next::Call => execute_ecall(words, marks, tape, used),
+        Next::End(outcome) => Stepped {
+            step: Step::Ended(outcome),
+            used,
+        },
+    }
+}
+
+fn execute_decoded(
+    words: &mut [u64],
+    marks: &mut [u8],
+    decoded: Decoded,
+    tape: &[u64],
+    used: usize,
+) -> Stepped
+    requires { ⌜ Shape (now words) (now marks) ⌝ ∗ ⌜ RegistersIn decoded ⌝ }
+    ensures { λ r. ⌜ called (now (words .exit)) (now (marks .exit)) r ≡ executed decoded (now (tape .entry)) used (row (now (words .entry)) (now (marks .entry))) ⌝ }
+{
+    match decoded {
+        Decoded::Valid(instruction) => {
+            let next = execute(words, marks, instruction);
+            follow(words, marks, next, tape, used)
+        }
+        Decoded::Invalid => Stepped {
+            step: Step::Ended(Outcome::Failed(ExecutorError::InvalidInstructionEncoding)),
+            used,
+        },
+    }
+}
+
+fn interpret(words: &mut [u64], marks: &mut [u8], tape: &[u64], used: usize) -> Stepped
+    requires { ⌜ Shape (now words) (now marks) ⌝ }
+    ensures { λ r. ⌜ called (now (words .exit)) (now (marks .exit)) r ≡ interpreted (fetched (row (now (words .entry)) (now (marks .entry)))) (now (tape .entry)) used (row (now (words .entry)) (now (marks .entry))) ⌝ }
+{
+    match fetch(words, marks) {
+        Fetched::Word(x) => execute_decoded(words, marks, decode(x), tape, used),
+        Fetched::Refused(error) => Stepped {
+            step: Step::Ended(Outcome::Failed(error)),
+            used,
+        },
+    }
+}
+
+// One instruction; a write call is handed out for the caller to complete.
+pub(crate) fn step(words: &mut [u64], marks: &mut [u8], tape: &[u64], used: usize) -> Stepped
+    requires { ⌜ Shape (now words) (now marks) ⌝ ∗ ⌜ depthOf (row (now words) (now marks)) + 1 < 2 ^ 64 ⌝ }
+    ensures { λ r. ⌜ called (now (words .exit)) (now (marks .exit)) r ≡ steppedOf (now (tape .entry)) used (row (now (words .entry)) (now (marks .entry))) ⌝ }
+{
+    words[DEPTH] = words[DEPTH] + 1;
+    interpret(words, marks, tape, used)
+}
+
+fn finish(words: &mut [u64], marks: &mut [u8], step: Step, used: usize) -> Moved
+    requires { ⌜ Shape (now words) (now marks) ⌝ }
+    ensures { λ r. ⌜ reached (now (words .exit)) (now (marks .exit)) r ≡ finished step used (row (now (words .entry)) (now (marks .entry))) ⌝ }
+{
+    match step {
+        Step::Running => Moved {
+            progress: Progress::Running,
+            used,
+        },
+        Step::Write { buffer: _, size } => {
+            complete_write(words, marks, size);
+            Moved {
+                progress: Progress::Running,
+                used,
+            }
+        }
+        Step::Ended(outcome) => Moved {
+            progress: Progress::Ended(outcome),
+            used,
+        },
+    }
+}
+
+// One instruction, whole: the bytes of a write call go nowhere.
+pub(crate) fn advance(words: &mut [u64], marks: &mut [u8], tape: &[u64], used: usize) -> Moved
+    requires { ⌜ Shape (now words) (now marks) ⌝ ∗ ⌜ depthOf (row (now words) (now marks)) + 1 < 2 ^ 64 ⌝ }
+    ensures { λ r. ⌜ reached (now (words .exit)) (now (marks .exit)) r ≡ advanced (now (tape .entry)) used (row (now (words .entry)) (now (marks .entry))) ⌝ }
+{
+    let stepped = step(words, marks, tape, used);
+    let at = stepped.used;
+    let came_to = stepped.step;
+    finish(words, marks, came_to, at)
+}

@@ -1,0 +1,4 @@
+pub mod Draws
+pub mod Words
+pub mod Tails
+pub mod Kept
