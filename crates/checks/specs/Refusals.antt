@@ -2,6 +2,7 @@
 use mathlib.Core.Bool.{Bool, _&&_, _||_}
 use Prim.Native.Nat.{ℕ, _+_, _*_, _/_, _%_}
 use lib.Dec.{eqb, leb}
+use Rattle.rows.specs.Rows.{header}
 use Rattle.checks.specs.declared.refusal.Refusal.{Refusal}
 use Rattle.checks.specs.declared.refusal.Refusal.the-variants.{MemorySize, LogSize, LentLengths, SegmentLength, SegmentEnd, InvalidRow}
 
@@ -22,11 +23,11 @@ abbrev pub isLogSize : ℕ → Bool
 isLogSize l = leb l 65536
 
 -- 5: lent lengths not exact, for so many rows of W memory words and L log words
-abbrev pub rowWords : ℕ → ℕ → ℕ
-rowWords w l = 37 + w + l
-
 abbrev pub rowMarks : ℕ → ℕ
 rowMarks w = 32 + w
+
+abbrev pub rowWords : ℕ → ℕ → ℕ
+rowWords w l = header + 32 + w + l
 
 abbrev pub areLengths : ℕ → ℕ → ℕ → ℕ → ℕ → Bool
 areLengths rows w l words marks = eqb words (rows * rowWords w l) && eqb marks (rows * rowMarks w)

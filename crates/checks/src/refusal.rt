@@ -51,12 +51,17 @@ pub fn is_log_size(words: u64) -> bool
     words <= 65_536
 }
 
+// What a row has beside its memory and log: the words before its registers, and the registers.
+const FIXED_WORDS: u64 = 37;
+
+const FIXED_MARKS: u64 = 32;
+
 // Whether words and marks of these lengths hold just so many rows of `memory` memory words and `log` log words.
 pub fn are_lengths(rows: u64, memory: u64, log: u64, words: u64, marks: u64) -> bool
     requires { ⌜ rows ≤ 4096 ⌝ ∗ ⌜ memory ≤ 131072 ⌝ ∗ ⌜ log ≤ 65536 ⌝ }
     ensures { λ r. ⌜ r ≡ areLengths rows memory log words marks ⌝ }
 {
-    words == rows * (37 + memory + log) && marks == rows * (32 + memory)
+    words == rows * (FIXED_WORDS + memory + log) && marks == rows * (FIXED_MARKS + memory)
 }
 
 pub fn is_whole(bytes: u64) -> bool

@@ -2,7 +2,7 @@
 ghost use mathlib.Core.Path.{_≡_};
 ghost use Prim.Native.Nat.{_+_, _≤_};
 ghost use lib.ListN.{length, drop};
-ghost use Rattle.rows.specs.Rows.{row, Shape};
+ghost use Rattle.rows.specs.Rows.{row, Shape, header};
 ghost use Rattle.rows.specs.Valid.{slotValid, slotsValid, allZero, zeroRegister, soundRow, validRow};
 use rows::row::HEADER;
 use rows::row::LIMIT;
@@ -19,7 +19,7 @@ fn slot_valid(word: u64, mark: u8) -> bool
 
 fn slots_valid(words: &[u64], marks: &[u8]) -> bool
     requires { ⌜ Shape (now words) (now marks) ⌝ }
-    ensures { λ r. ⌜ r ≡ slotsValid (drop 5 (now (words .entry))) (now (marks .entry)) ⌝ }
+    ensures { λ r. ⌜ r ≡ slotsValid (drop header (now (words .entry))) (now (marks .entry)) ⌝ }
 {
     let mut n = 0;
     while n < marks.len() {
