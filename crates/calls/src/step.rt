@@ -19,7 +19,7 @@ pub struct Stepped {
     pub used: usize,
 }
 
-pub fn step_of(progress: Progress) -> Step
+pub(crate) fn step_of(progress: Progress) -> Step
     ensures { λ r. ⌜ r ≡ stepOf progress ⌝ }
 {
     match progress {

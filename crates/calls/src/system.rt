@@ -2,7 +2,7 @@
 ghost use mathlib.Core.Path.{_≡_};
 ghost use Prim.Native.Nat.{_+_, _-_, _≤_};
 ghost use lib.ListN.{length};
-ghost use Rattle.rows.specs.Rows.{row, Shape, slotAt};
+ghost use Rattle.rows.specs.Rows.{row, Shape};
 ghost use Rattle.reading.specs.Reading.{reached};
 ghost use Rattle.calls.specs.Calls.{brk as brkOf, brkProgress, readTo, read as readOf, allConcrete, writeFrom, write as writeOf, exit as exitOf};
 ghost use Rattle.calls.specs.Calls.{called, callOf, idOf, system as systemOf, completed, Within};

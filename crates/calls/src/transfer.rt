@@ -33,7 +33,7 @@ pub struct Reasons {
     pub size: NotSupportedReason,
 }
 
-pub fn unsupported(reason: NotSupportedReason) -> Outcome
+pub(crate) fn unsupported(reason: NotSupportedReason) -> Outcome
     ensures { λ r. ⌜ r ≡ Outcome.Failed (ExecutorError.NotSupported reason) ⌝ }
 {
     Outcome::Failed(ExecutorError::NotSupported(reason))
@@ -88,7 +88,7 @@ fn is_file(fd: u64, a0: Value) -> bool
 }
 
 // The buffer that a0, a1 and a2 name for a call on the file fd.
-pub fn transfer_of(words: &[u64], marks: &[u8], fd: u64, reasons: Reasons) -> Transfer
+pub(crate) fn transfer_of(words: &[u64], marks: &[u8], fd: u64, reasons: Reasons) -> Transfer
     requires { ⌜ Shape (now words) (now marks) ⌝ }
     ensures { λ r. ⌜ r ≡ transferOf fd reasons (row (now (words .entry)) (now (marks .entry))) ⌝ }
 {
