@@ -37,7 +37,7 @@ module _ {A : Type 0} (f : Row → A) (pc : (x : ℕ) (r : Row) → f (setPc x r
   read-to-kept (Buffer buffer size) tape used r =
       then-kept f (λ u s. goes u (answered size s)) (λ u s. answer size s) (bytes size tape (buffer / 8) used r) r
       (input size tape (buffer / 8) used r)
-  read-to-kept (Refused o) tape used r = refl
+  read-to-kept (Refused o) tape used r = search answer
 
   call-kept : (id : SyscallId) (tape : List ℕ) (used : ℕ) (r : Row) → f (callOf id tape used r .row) ≡ f r
   unfolding callOf read
