@@ -1,4 +1,3 @@
-pub mod Choices
 pub mod Ranges
 pub mod Concrete
 pub mod Kept

@@ -25,14 +25,13 @@ use effects::system::syscall_id;
 use effects::value::Value;
 use reading::Moved;
 use reading::read_bytes;
+use riscu::instruction::INSTRUCTION_SIZE;
 use rows::row::BREAK;
 use rows::row::PC;
 use rows::row::REGISTERS;
 use rows::row::read_slot;
 use rows::row::write_slot;
 use std::num::wrapping_add_u64;
-
-const INSTRUCTION_SIZE: u64 = 4;
 
 const STDIN: u64 = 0;
 

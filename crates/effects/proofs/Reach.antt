@@ -6,6 +6,7 @@ use native.Mathlib.Omega.{arith}
 use lib.Dec.{eqb, ltb}
 use borrow.Author.Tests.{ltb-true, eqb-false}
 use Rattle.riscu.specs.Registers.{Registers}
+use Rattle.riscu.proofs.Choices.{chosen}
 use Rattle.riscu.specs.declared.instruction.Instruction.{Instruction}
 use Rattle.riscu.specs.declared.instruction.Instruction.the-variants as instruction
 use Rattle.answers.specs.declared.bug.Bug.the-variants.{DivisionByZero, AccessToUnalignedAddress, AccessToOutOfRangeAddress}
@@ -20,17 +21,12 @@ use Rattle.effects.specs.declared.effect.Effect.the-variants.{Assign, Lo
 use Rattle.effects.specs.Arithmetic.{add, operated}
 use Rattle.effects.specs.Effects.{InReach, bug, next, assign, binaryOp, isZero, divuRemu, beq, jalr, access, loadFrom, ld, storeTo, sd, effectOf}
 
--- of two effects the one that a test chooses
-chosen : (w : ℕ) (b : Bool) (e f : Effect) → (b ≡ true → InReach w e) → (b ≡ false → InReach w f) → InReach w (cond b e f)
-chosen w true e f p q = p refl
-chosen w false e f p q = q refl
-
 above-zero : (n : ℕ) → eqb n 0 ≡ false → 0 < n
 above-zero n f = let h = eqb-false n 0 f in omega arith
 
 assign-reach : (w rd : ℕ) (v : Value) (pc : ℕ) → rd < 32 → InReach w (assign rd v pc)
 unfolding assign
-assign-reach w rd v pc h = chosen w (eqb rd 0) (Jump pc) (Assign rd v pc) (λ t. tt) (λ f. (above-zero rd f, h))
+assign-reach w rd v pc h = chosen (InReach w) (eqb rd 0) (Jump pc) (Assign rd v pc) (λ t. tt) (λ f. (above-zero rd f, h))
 
 binary-reach : (w : ℕ) (op : Op) (rd pc : ℕ) (a b : Value) → rd < 32 → InReach w (binaryOp op rd pc a b)
 unfolding binaryOp
@@ -41,7 +37,7 @@ binary-reach w op rd pc Uninitialized b h = tt
 divu-remu-reach : (w : ℕ) (op : Op) (rd pc : ℕ) (a b : Value) → rd < 32 → InReach w (divuRemu op rd pc a b)
 unfolding divuRemu
 divu-remu-reach w op rd pc a b h =
-    chosen w (isZero b) (bug DivisionByZero) (binaryOp op rd pc a b) (λ t. tt) (λ f. binary-reach w op rd pc a b h)
+    chosen (InReach w) (isZero b) (bug DivisionByZero) (binaryOp op rd pc a b) (λ t. tt) (λ f. binary-reach w op rd pc a b h)
 
 beq-reach : (w imm pc : ℕ) (a b : Value) → InReach w (beq imm pc a b)
 unfolding beq
@@ -73,7 +69,7 @@ access-below address w = aligned (eqb (address % 8) 0)
 
 load-reach : (w : ℕ) (a : Access) (rd pc : ℕ) → rd < 32 → Below w a → InReach w (loadFrom a rd pc)
 unfolding loadFrom
-load-reach w (Word m) rd pc h k = chosen w (eqb rd 0) (Jump pc) (Load rd m pc) (λ t. tt) (λ f. (above-zero rd f, h, k))
+load-reach w (Word m) rd pc h k = chosen (InReach w) (eqb rd 0) (Jump pc) (Load rd m pc) (λ t. tt) (λ f. (above-zero rd f, h, k))
 load-reach w (Invalid b) rd pc h k = tt
 
 ld-reach : (w rd imm pc : ℕ) (base : Value) → rd < 32 → InReach w (ld rd imm pc base w)

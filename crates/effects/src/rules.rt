@@ -12,9 +12,8 @@ use answers::bug::UninitializedMemoryAccessReason;
 use answers::error::ExecutorError;
 use answers::error::NotSupportedReason;
 use answers::outcome::Outcome;
+use riscu::instruction::INSTRUCTION_SIZE;
 use std::num::wrapping_add_u64;
-
-const INSTRUCTION_SIZE: u64 = 4;
 
 // A memory word, or why an address names none.
 pub enum Access {

@@ -1,5 +1,4 @@
 -- What reading leaves alone: the lengths of a row's words and marks, and its pc, break, depth and limit.
-use mathlib.Core.Bool.{Bool, true, false, cond}
 use mathlib.Core.List.{List}
 use mathlib.Core.Path.{_≡_, refl, _∙_}
 use Prim.Native.Nat.{ℕ, zero, suc, _+_, _*_, _/_, _%_, _^_, _<_}
@@ -7,6 +6,7 @@ use native.Mathlib.Omega.{arith}
 use lib.Dec.{eqb}
 use lib.ListN.{length, getD, length-set}
 use lib.Seq.{getD-set-other}
+use Rattle.riscu.proofs.Choices.{chosen}
 use Rattle.answers.specs.declared.outcome.Progress.{Progress}
 use Rattle.answers.specs.declared.outcome.Progress.the-variants.{Running, Ended}
 use Rattle.effects.specs.declared.value.Value.{Value}
@@ -16,12 +16,7 @@ use Rattle.reading.specs.declared.Drawn.{Drawn}
 use Rattle.reading.specs.declared.Drawn.the-variants.{Word, Refused}
 use Rattle.reading.specs.Reading.{Reached, goes, onwards, _thenOn_, drawn, recorded, fullWord, fullWords, tailOf, tail, rest, bytes}
 
--- f is what is kept: by the one of two that a test chooses, if by both
-pub cond-kept : {A : Type 0} (f : Row → A) (b : Bool) (x y : Reached) (r : Row) → f (x .row) ≡ f r → f (y .row) ≡ f r → f (cond b x y .row) ≡ f r
-cond-kept f true x y r p q = p
-cond-kept f false x y r p q = q
-
--- by two things in turn, if by each
+-- f is what is kept: by two things in turn, if by each
 module _ {A : Type 0} (f : Row → A) (then : ℕ → Row → Reached) (each : (used : ℕ) (s : Row) → f (then used s .row) ≡ f s) where
   onwards-kept : (p : Progress) (used : ℕ) (s : Row) → f (onwards then p used s .row) ≡ f s
   unfolding onwards
@@ -58,8 +53,8 @@ module _ {A : Type 0} (f : Row → A) (each : (m logged stored : ℕ) (r : Row) 
   rest-kept : (size : ℕ) (tape : List ℕ) (m used : ℕ) (r : Row) → f (rest size tape m used r .row) ≡ f r
   unfolding rest
   rest-kept size tape m used r =
-      cond-kept f (eqb (size % 8) 0) (goes used r) (tail (memoryAt r (m + size / 8)) tape (2 ^ (8 * (size % 8))) (m + size / 8) used r) r refl
-      (tail-kept (memoryAt r (m + size / 8)) tape (2 ^ (8 * (size % 8))) (m + size / 8) used r)
+      chosen (λ (x : Reached). f (x .row) ≡ f r) (eqb (size % 8) 0) (goes used r) (tail (memoryAt r (m + size / 8)) tape (2 ^ (8 * (size % 8))) (m + size / 8) used r)
+      (λ t. refl) (λ t. tail-kept (memoryAt r (m + size / 8)) tape (2 ^ (8 * (size % 8))) (m + size / 8) used r)
 
   pub bytes-kept : (size : ℕ) (tape : List ℕ) (m used : ℕ) (r : Row) → f (bytes size tape m used r .row) ≡ f r
   unfolding bytes

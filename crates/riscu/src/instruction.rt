@@ -1,6 +1,9 @@
 // The fourteen instructions, each with the fields of its format (the manual's R, I, S, B, U and J).
 // A register is its number, from 0 to 31; an immediate is ready for use as a 64-bit number.
 
+// The bytes that an instruction takes.
+pub const INSTRUCTION_SIZE: u64 = 4;
+
 pub struct RType {
     pub rd: usize,
     pub rs1: usize,

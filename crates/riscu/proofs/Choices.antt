@@ -1,4 +1,4 @@
--- What holds of either of two things holds of the one that a test chooses.
+-- A claim about what a test chooses, from the claim about each choice.
 use mathlib.Core.Path.{_≡_, refl}
 use mathlib.Core.Bool.{Bool, true, false, cond}
 
