@@ -1,0 +1,97 @@
+// Where the parts of a line stand: twelve numbers, then the words of code, data and tape, then the runs.
+ghost use Prim.Native.Nat.{_≤_};
+
+// The columns of a line's start; the sizes are the first.
+pub const SIZES: usize = 0;
+
+pub const CODE_ADDRESS: usize = 4;
+
+const CODE_LENGTH: usize = 5;
+
+pub const DATA_ADDRESS: usize = 6;
+
+const DATA_LENGTH: usize = 7;
+
+const TAPE_WORDS: usize = 8;
+
+const RUNS: usize = 9;
+
+pub const NUMBER: usize = 10;
+
+pub const DIGEST: usize = 11;
+
+pub const CODE: usize = 12;
+
+// How many numbers a run has.
+pub const RUN_COLUMNS: usize = 13;
+
+// The most that a line has.
+pub const MOST_NUMBERS: usize = 192;
+
+pub const MOST_BYTES: usize = 512;
+
+const MOST_RUNS: usize = 3;
+
+const WORD_BYTES: usize = 8;
+
+pub struct Layout {
+    // in bytes
+    pub code_length: usize,
+    pub data_length: usize,
+    // where the words of the data, of the tape and of the first run begin
+    pub data: usize,
+    pub tape: usize,
+    pub runs: usize,
+    pub run_count: usize,
+}
+
+// The number in a column; 0 past the end.
+pub fn number_at(numbers: &[u64], at: usize) -> u64 {
+    if at < numbers.len() { numbers[at] } else { 0 }
+}
+
+// The length in a column. One above the most is cut down to it, and then the line is not whole.
+pub fn length_at(numbers: &[u64], at: usize, most: usize) -> usize
+    ensures { λ r. ⌜ r ≤ most ⌝ }
+{
+    let length = number_at(numbers, at);
+    if length <= most as u64 {
+        length as usize
+    } else {
+        most
+    }
+}
+
+fn words_of(bytes: usize) -> usize
+    requires { ⌜ bytes ≤ 512 ⌝ }
+    ensures { λ r. ⌜ r ≤ 64 ⌝ }
+{
+    (bytes + WORD_BYTES - 1) / WORD_BYTES
+}
+
+pub fn layout_of(numbers: &[u64]) -> Layout
+    ensures { λ r. ⌜ (r .«code_length» ≤ 512) × (r .«data_length» ≤ 512) × (r .«run_count» ≤ 3) × (r .«data» ≤ 1000) × (r .runs ≤ 1000) ⌝ }
+{
+    let code_length = length_at(numbers, CODE_LENGTH, MOST_BYTES);
+    let data_length = length_at(numbers, DATA_LENGTH, MOST_BYTES);
+    let data = CODE + words_of(code_length);
+    let tape = data + words_of(data_length);
+    Layout {
+        code_length,
+        data_length,
+        data,
+        tape,
+        runs: tape + length_at(numbers, TAPE_WORDS, MOST_NUMBERS),
+        run_count: length_at(numbers, RUNS, MOST_RUNS),
+    }
+}
+
+// Whether the line has the lengths that it says, and just so many numbers.
+pub fn is_whole(numbers: &[u64], layout: Layout) -> bool
+    requires { ⌜ (layout .«run_count» ≤ 3) × (layout .runs ≤ 1000) ⌝ }
+{
+    number_at(numbers, CODE_LENGTH) == layout.code_length as u64
+        && number_at(numbers, DATA_LENGTH) == layout.data_length as u64
+        && number_at(numbers, RUNS) == layout.run_count as u64
+        && numbers.len() == layout.runs + layout.run_count * RUN_COLUMNS
+}

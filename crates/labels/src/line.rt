@@ -1,0 +1,105 @@
+// A line of the list while its bytes come: a name, then lowercase hexadecimal numbers with one space before each.
+ghost use Prim.Native.Nat.{_≤_};
+
+const MOST_DIGITS: usize = 16;
+
+const BASE: u64 = 16;
+
+// 16^15: what is below it takes one digit more.
+const ROOM_FOR_DIGIT: u64 = 0x1000_0000_0000_0000;
+
+const NO_DIGIT: u64 = 16;
+
+pub struct Line {
+    // whether no byte has come
+    pub empty: bool,
+    in_name: bool,
+    // of the number that is being read
+    value: u64,
+    digits: usize,
+    // numbers that are read
+    pub count: usize,
+    pub broken: bool,
+}
+
+fn digit(byte: u8) -> u64
+    ensures { λ r. ⌜ r ≤ 16 ⌝ }
+{
+    match byte {
+        b'0'..=b'9' => (byte - b'0') as u64,
+        b'a'..=b'f' => (byte - b'a') as u64 + 10,
+        _ => NO_DIGIT,
+    }
+}
+
+impl Line {
+    pub fn new() -> Line {
+        Line {
+            empty: true,
+            in_name: true,
+            value: 0,
+            digits: 0,
+            count: 0,
+            broken: false,
+        }
+    }
+
+    fn spoilt(mut self) -> Line {
+        self.broken = true;
+        self
+    }
+
+    fn past_name(mut self) -> Line {
+        self.in_name = false;
+        self
+    }
+
+    // A byte of the name, or a digit of a number.
+    fn with_letter(mut self, byte: u8) -> Line {
+        let digit = digit(byte);
+        if self.in_name {
+            return self;
+        }
+        if digit == NO_DIGIT {
+            return self.spoilt();
+        }
+        if self.digits >= MOST_DIGITS {
+            return self.spoilt();
+        }
+        self.value = self.value % ROOM_FOR_DIGIT * BASE + digit;
+        self.digits += 1;
+        self
+    }
+
+    // The number that was read goes to its place among the line's numbers.
+    pub fn with_number(mut self, numbers: &mut [u64]) -> Line {
+        let at = self.count;
+        if self.digits == 0 {
+            return self.spoilt();
+        }
+        if at >= numbers.len() {
+            return self.spoilt();
+        }
+        numbers[at] = self.value;
+        self.value = 0;
+        self.digits = 0;
+        self.count = at + 1;
+        self
+    }
+
+    // Any byte but a line feed. A space ends the name, which may not be empty, or a number.
+    pub fn with_byte(mut self, numbers: &mut [u64], byte: u8) -> Line {
+        let first = self.empty;
+        self.empty = false;
+        if byte != b' ' {
+            return self.with_letter(byte);
+        }
+        if first {
+            return self.spoilt();
+        }
+        if self.in_name {
+            return self.past_name();
+        }
+        self.with_number(numbers)
+    }
+}
