@@ -5,9 +5,9 @@ use Prim.Native.Nat.{ℕ, _+_, _*_, _/_, _%_, _^_, _<_, _≤_}
 use native.Mathlib.Omega.{arith}
 use borrow.Author.Tests.{eqb-true, leb-true, ne-eqb}
 use lib.Dec.{eqb, leb}
-use Rattle.rows.specs.Rows.{Row, limitOf}
+use Rattle.rows.specs.Rows.{Row, rowWords, rowMarks, limitOf}
 use Rattle.rows.specs.Valid.{soundRow, validRow}
-use Rattle.checks.specs.Refusals.{isMemorySize, isLogSize, rowWords, rowMarks, areLengths, isWhole, isInside}
+use Rattle.checks.specs.Refusals.{isMemorySize, isLogSize, areLengths, isWhole, isInside}
 
 pub memory-size : (bytes : ℕ) → isMemorySize bytes ≡ true → (bytes % 1024 ≡ 0) × (1024 ≤ bytes) × (bytes ≤ 1048576)
 memory-size bytes h =

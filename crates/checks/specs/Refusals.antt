@@ -2,12 +2,16 @@
 use mathlib.Core.Bool.{Bool, _&&_, _||_}
 use Prim.Native.Nat.{ℕ, _+_, _*_, _/_, _%_}
 use lib.Dec.{eqb, leb}
-use Rattle.rows.specs.Rows.{header}
+use lib.IntN.{pos}
+use lib.Ieee.{Float, binary64, ofInt, le}
+use Rattle.rows.specs.Rows.{rowWords, rowMarks}
 use Rattle.checks.specs.declared.refusal.Refusal.{Refusal}
-use Rattle.checks.specs.declared.refusal.Refusal.the-variants.{MemorySize, LogSize, LentLengths, SegmentLength, SegmentEnd, InvalidRow}
+use Rattle.checks.specs.declared.refusal.Refusal.the-variants.{MemorySize, AmountOfStates, CopyRatio, LogSize, LentLengths, SegmentLength, SegmentEnd, InvalidRow}
 
 abbrev pub refusalNumber : Refusal → ℕ
 refusalNumber MemorySize = 1
+refusalNumber AmountOfStates = 2
+refusalNumber CopyRatio = 3
 refusalNumber LogSize = 4
 refusalNumber LentLengths = 5
 refusalNumber SegmentLength = 6
@@ -18,17 +22,19 @@ refusalNumber InvalidRow = 9
 abbrev pub isMemorySize : ℕ → Bool
 isMemorySize bytes = eqb (bytes % 1024) 0 && leb 1024 bytes && leb bytes 1048576
 
+-- 2: states outside 1 to 4096
+abbrev pub isAmountOfStates : ℕ → Bool
+isAmountOfStates states = leb 1 states && leb states 4096
+
+-- 3: ratio not within 0 to 1
+abbrev pub isCopyRatio : Float → Bool
+isCopyRatio ratio = le (ofInt binary64 (pos 0)) ratio && le ratio (ofInt binary64 (pos 1))
+
 -- 4: L above 65,536
 abbrev pub isLogSize : ℕ → Bool
 isLogSize l = leb l 65536
 
 -- 5: lent lengths not exact, for so many rows of W memory words and L log words
-abbrev pub rowMarks : ℕ → ℕ
-rowMarks w = 32 + w
-
-abbrev pub rowWords : ℕ → ℕ → ℕ
-rowWords w l = header + 32 + w + l
-
 abbrev pub areLengths : ℕ → ℕ → ℕ → ℕ → ℕ → Bool
 areLengths rows w l words marks = eqb words (rows * rowWords w l) && eqb marks (rows * rowMarks w)
 

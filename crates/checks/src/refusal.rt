@@ -2,10 +2,13 @@
 ghost use mathlib.Core.Path.{_≡_};
 ghost use Prim.Native.Nat.{_≤_};
 ghost use Rattle.checks.specs.Refusals.{refusalNumber, isMemorySize, isLogSize, areLengths, isWhole, isInside};
+ghost use Rattle.checks.specs.Refusals.{isAmountOfStates, isCopyRatio};
 
 // Why an entry refuses, in the order in which it tests.
 pub enum Refusal {
     MemorySize,
+    AmountOfStates,
+    CopyRatio,
     LogSize,
     LentLengths,
     SegmentLength,
@@ -24,6 +27,8 @@ impl Refusal {
     {
         match self {
             Refusal::MemorySize => 1,
+            Refusal::AmountOfStates => 2,
+            Refusal::CopyRatio => 3,
             Refusal::LogSize => 4,
             Refusal::LentLengths => 5,
             Refusal::SegmentLength => 6,
@@ -43,6 +48,19 @@ pub fn is_memory_size(bytes: u64) -> bool
         return false;
     }
     bytes <= 1_048_576
+}
+
+pub fn is_amount_of_states(states: u64) -> bool
+    ensures { λ r. ⌜ r ≡ isAmountOfStates states ⌝ }
+{
+    1 <= states && states <= 4096
+}
+
+// -0.0 is within, NaN is not.
+pub fn is_copy_ratio(ratio: f64) -> bool
+    ensures { λ r. ⌜ r ≡ isCopyRatio ratio ⌝ }
+{
+    0.0 <= ratio && ratio <= 1.0
 }
 
 pub fn is_log_size(words: u64) -> bool

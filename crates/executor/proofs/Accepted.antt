@@ -1,19 +1,17 @@
 -- What an entry's tests that passed, or did not, say.
-use mathlib.Core.Path.{_≡_, refl, sym, _∙_, subst}
-use mathlib.Core.Bool.{Bool, true, false, cond, _&&_}
-use mathlib.Core.List.{List}
-use Prim.Native.Nat.{ℕ, _+_, _-_, _*_, _/_, _%_, _≤_, _<_}
+use mathlib.Core.Path.{_≡_, refl}
+use mathlib.Core.Bool.{Bool, true, false, cond}
+use Prim.Native.Nat.{ℕ, _-_, _/_, _<_}
 use native.Mathlib.Omega.{arith}
 use lib.ListN.{length}
 use Rattle.rows.specs.Rows.{Row, Shape}
-use Rattle.loader.specs.Loading.{Program, Segment, Fits}
-use Rattle.checks.specs.Refusals.{isMemorySize, isLogSize, areLengths, isWhole, isInside, rowWords, rowMarks}
+use Rattle.checks.specs.Refusals.{isMemorySize, isLogSize, areLengths}
 use Rattle.checks.specs.declared.refusal.Refusal.{Refusal}
-use Rattle.checks.specs.declared.refusal.Refusal.the-variants.{MemorySize, LogSize, LentLengths, SegmentLength, SegmentEnd}
+use Rattle.checks.specs.declared.refusal.Refusal.the-variants.{MemorySize, LogSize, LentLengths}
 use Rattle.checks.specs.declared.refusal.Checked.{Checked}
 use Rattle.checks.specs.declared.refusal.Checked.the-variants.{Accepted, Refused}
-use Rattle.checks.proofs.Passed.{memory-size, lengths, whole, inside}
-use Rattle.executor.specs.Entries.{sizesThen, segmentsChecked}
+use Rattle.checks.proofs.Passed.{memory-size, lengths}
+use Rattle.executor.specs.Entries.{sizesThen}
 
 -- three tests, each with its refusal, and what follows them
 abbrev Tested : Bool → Bool → Bool → Checked → Checked
@@ -49,23 +47,3 @@ sizes-accepted memory log r h =
     let m = memory-size memory (p .0) in
     let n = lengths 1 (memory / 8) log (length (r .words)) (length (r .marks)) (p .2) in
     record { then = λ next. rw (p .0, p .1, p .2); shape = record { registers = omega (arith, n .1); slots = omega (arith, n .0, n .1) }; some-memory = omega (arith, m .1, n .1); memory-words = omega (arith, n .1) }
-
-both : (a b : Bool) → a && b ≡ true → (a ≡ true) × (b ≡ true)
-both true b h = (refl, h)
-both false b h = (cc, cc)
-
-segment-fits : (w : ℕ) (s : Segment) → isWhole (length (s .content)) ≡ true → isInside w (s .address) (length (s .content)) ≡ true → Fits w s
-segment-fits w s h k = record { whole = whole (length (s .content)) h; inside = inside w (s .address) (length (s .content)) k }
-
-two-accepted : (a b : Bool) → cond a (cond b Accepted (Refused SegmentEnd)) (Refused SegmentLength) ≡ Accepted → (a ≡ true) × (b ≡ true)
-two-accepted true true h = (refl, refl)
-two-accepted true false h = (refl, cc)
-two-accepted false b h = (cc, cc)
-
--- segments that pass fit
-pub segments-fit : (w : ℕ) (p : Program) → segmentsChecked w p ≡ Accepted → Fits w (p .codeSegment) × Fits w (p .dataSegment)
-segments-fit w p h =
-    let t = two-accepted (isWhole (length (p .codeSegment .content)) && isWhole (length (p .dataSegment .content))) (isInside w (p .codeSegment .address) (length (p .codeSegment .content)) && isInside w (p .dataSegment .address) (length (p .dataSegment .content))) h in
-    let v = both (isWhole (length (p .codeSegment .content))) (isWhole (length (p .dataSegment .content))) (t .0) in
-    let i = both (isInside w (p .codeSegment .address) (length (p .codeSegment .content))) (isInside w (p .dataSegment .address) (length (p .dataSegment .content))) (t .1) in
-    (segment-fits w (p .codeSegment) (v .0) (i .0), segment-fits w (p .dataSegment) (v .1) (i .1))

@@ -17,12 +17,12 @@ use Rattle.effects.specs.Values.{valueAt}
 use Rattle.effects.specs.declared.arithmetic.Op.the-variants.{Sub, Divu}
 use Rattle.effects.specs.declared.effect.Effect.the-variants as effect
 use Rattle.effects.specs.declared.value.Value.the-variants.{Concrete, Uninitialized}
-use Rattle.rows.specs.Rows.{Row, memoryAt, setMemory, breakOf, logStart}
+use Rattle.rows.specs.Rows.{Row, blank, memoryAt, setMemory, breakOf, logStart}
 use Rattle.rows.specs.Execution.{applied, effectIn}
 use Rattle.reading.specs.Reading.{tail, tailOf, drawn, recorded}
 use Rattle.calls.specs.Calls.{brk, validRange, system, callOf, idOf, exit}
 use Rattle.calls.specs.declared.transfer.Transfer.the-variants.{Buffer, Refused}
-use Rattle.loader.specs.Loading.{segment, program, blank, newExecutor, programmed, started, loaded, loadedFrom}
+use Rattle.loader.specs.Loading.{segment, program, newExecutor, programmed, started, loaded, loadedFrom}
 use Rattle.machine.specs.Steps.{fetched, halfAt, stepped, advanced, finished, interpreted, executed, followed}
 use Rattle.machine.specs.Runs.{runOf, runFor, continued, stops}
 use Rattle.machine.specs.declared.step.Fetched.the-variants.{Word}

@@ -1,5 +1,5 @@
 -- The entries over one lent row: a new executor, and a run. What is refused changes nothing.
-use mathlib.Core.Bool.{cond, not, _&&_}
+use mathlib.Core.Bool.{cond}
 use mathlib.Core.List.{List}
 use Prim.Native.Nat.{ℕ, _/_}
 use lib.ListN.{length}
@@ -11,9 +11,10 @@ use Rattle.rows.specs.Rows.{Row, row}
 use Rattle.loader.specs.Loading.{Program, newExecutor}
 use Rattle.machine.specs.Runs.{runOf}
 use Rattle.machine.specs.declared.run.Ran.{Ran}
-use Rattle.checks.specs.Refusals.{refusalNumber, isMemorySize, isLogSize, areLengths, isWhole, isInside}
+use Rattle.checks.specs.Refusals.{refusalNumber, isMemorySize, isLogSize, areLengths}
+use Rattle.checks.specs.Segments.{segmentsChecked}
 use Rattle.rows.specs.Valid.{validRow}
-use Rattle.checks.specs.declared.refusal.Refusal.the-variants.{MemorySize, LogSize, LentLengths, SegmentLength, SegmentEnd, InvalidRow}
+use Rattle.checks.specs.declared.refusal.Refusal.the-variants.{MemorySize, LogSize, LentLengths, InvalidRow}
 use Rattle.checks.specs.declared.refusal.Checked.{Checked}
 use Rattle.checks.specs.declared.refusal.Checked.the-variants as checked
 use Rattle.executor.specs.declared.RunAnswer.{RunAnswer}
@@ -27,16 +28,6 @@ sizesThen memory log r next =
     (cond (areLengths 1 (memory / 8) log (length (r .words)) (length (r .marks))) next (checked.Refused LentLengths))
     (checked.Refused LogSize))
     (checked.Refused MemorySize)
-
--- 6 for either segment, then 7 for either
-abbrev pub segmentsChecked : ℕ → Program → Checked
-segmentsChecked w p =
-    cond (isWhole (length (p .codeSegment .content)) && isWhole (length (p .dataSegment .content)))
-    (cond
-    (isInside w (p .codeSegment .address) (length (p .codeSegment .content)) && isInside w (p .dataSegment .address) (length (p .dataSegment .content)))
-    checked.Accepted
-    (checked.Refused SegmentEnd))
-    (checked.Refused SegmentLength)
 
 -- a new executor: 1, 4, 5, 6, 7
 unfoldable pub creationChecked : ℕ → ℕ → Program → Row → Checked

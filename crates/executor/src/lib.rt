@@ -5,17 +5,16 @@ ghost use mathlib.Core.Path.{_≡_};
 ghost use Prim.Native.Nat.{_/_};
 ghost use Rattle.rows.specs.Rows.{row};
 ghost use Rattle.loader.specs.Loading.{segment, program};
-ghost use Rattle.executor.specs.Entries.{creationChecked, createdRow, segmentsChecked, sizesThen, runChecked, runEntry, answered};
+ghost use Rattle.executor.specs.Entries.{creationChecked, createdRow, sizesThen, runChecked, runEntry, answered};
 ghost use Rattle.executor.specs.Entries.{pcOfEnd, answerNumber, answerPc, answerValue, answerUsed};
 use answers::outcome::Outcome;
 use answers::outcome::Progress;
 use checks::refusal::Checked;
 use checks::refusal::Refusal;
 use checks::refusal::are_lengths;
-use checks::refusal::is_inside;
 use checks::refusal::is_log_size;
 use checks::refusal::is_memory_size;
-use checks::refusal::is_whole;
+use checks::segments::check_segments;
 use checks::valid_row::valid_row;
 use machine::run::Ran;
 
@@ -43,32 +42,6 @@ fn check_sizes(words: &[u64], marks: &[u8], memory: u64, log: u64) -> Checked
         marks.len() as u64,
     ) {
         return Checked::Refused(Refusal::LentLengths);
-    }
-    Checked::Accepted
-}
-
-fn check_segments(
-    memory: u64,
-    code_address: u64,
-    code: &[u8],
-    data_address: u64,
-    data: &[u8],
-) -> Checked
-    ensures { λ r. ⌜ r ≡ segmentsChecked memory (program (segment «code_address» (now (code .entry))) (segment «data_address» (now («data» .entry)))) ⌝ }
-{
-    let code_length = code.len() as u64;
-    let data_length = data.len() as u64;
-    if !is_whole(code_length) {
-        return Checked::Refused(Refusal::SegmentLength);
-    }
-    if !is_whole(data_length) {
-        return Checked::Refused(Refusal::SegmentLength);
-    }
-    if !is_inside(memory, code_address, code_length) {
-        return Checked::Refused(Refusal::SegmentEnd);
-    }
-    if !is_inside(memory, data_address, data_length) {
-        return Checked::Refused(Refusal::SegmentEnd);
     }
     Checked::Accepted
 }

@@ -6,8 +6,8 @@ use native.Mathlib.Omega.{arith}
 use lib.ListN.{length, getD, length-set, length-replicate, getD-replicate}
 use lib.Seq.{getD-set-same, getD-set-other}
 use Rattle.effects.specs.declared.value.Value.the-variants.{Concrete}
-use Rattle.rows.specs.Rows.{Row, header, memoryWords, depthOf, limitOf, logCount, setWord, setSlot, setMemory}
-use Rattle.loader.specs.Loading.{Segment, Program, wordAt, loadedFrom, loaded, started, programmed, blank, newExecutor}
+use Rattle.rows.specs.Rows.{Row, blank, header, memoryWords, depthOf, limitOf, logCount, setWord, setSlot, setMemory}
+use Rattle.loader.specs.Loading.{Segment, Program, wordAt, loadedFrom, loaded, started, programmed, newExecutor}
 
 -- a row with its stack pointer and zero register, before anything is in its memory
 abbrev pub pointed : Row → Row

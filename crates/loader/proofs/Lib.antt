@@ -1,4 +1,3 @@
 pub mod Segments
 pub mod Lengths
-pub mod Zeros
 pub mod Kept

@@ -2,9 +2,9 @@
 use mathlib.Core.Path.{_≡_}
 use mathlib.Core.List.{List}
 use Prim.Native.Nat.{ℕ, zero, suc, _+_, _-_, _*_, _/_, _%_, _^_, _≤_, _<_}
-use lib.ListN.{length, getD, replicate}
+use lib.ListN.{length, getD}
 use Rattle.effects.specs.declared.value.Value.the-variants.{Concrete}
-use Rattle.rows.specs.Rows.{Row, row, memoryWords, setPc, setBreak, setSlot, setMemory}
+use Rattle.rows.specs.Rows.{Row, blank, memoryWords, setPc, setBreak, setSlot, setMemory}
 
 -- a part of a program: where it is to lie, and its bytes
 pub record Segment : Type 0 where
@@ -52,11 +52,7 @@ programmed p r =
     setBreak (p .dataSegment .address + length (p .dataSegment .content))
     (setPc (p .codeSegment .address) (loaded (p .dataSegment) (loaded (p .codeSegment) (started r))))
 
--- all else 0 and uninitialised
-abbrev pub blank : ℕ → ℕ → Row
-blank words marks = row (replicate words 0) (replicate marks 0)
-
--- a new executor in a row of so many words and marks
+-- a new executor in a row of so many words and marks: all else 0 and uninitialised
 unfoldable pub newExecutor : Program → ℕ → ℕ → Row
 newExecutor p words marks = programmed p (blank words marks)
 

@@ -1,10 +1,12 @@
 // A program loaded into a row: a new executor (the Rust's Executor::new and load_segment). For the layers above.
 ghost use mathlib.Core.Path.{_≡_};
 ghost use Prim.Native.Nat.{_+_, _-_, _/_, _<_, _≤_, _^_};
-ghost use lib.ListN.{length, replicate};
+ghost use lib.ListN.{length};
 ghost use Rattle.rows.specs.Rows.{row, Shape};
 ghost use Rattle.loader.specs.Loading.{segment, program, wordAt, loadedFrom, loaded, started, programmed, newExecutor, Fits};
 use effects::value::Value;
+use rows::clear::clear_marks;
+use rows::clear::clear_words;
 use rows::row::BREAK;
 use rows::row::PC;
 use rows::row::REGISTERS;
@@ -80,26 +82,6 @@ pub fn load_program(
     load_segment(words, marks, data_address, data);
     words[PC] = code_address;
     words[BREAK] = data_address + data.len() as u64;
-}
-
-fn clear_words(words: &mut [u64])
-    ensures { λ _. ⌜ now (words .exit) ≡ replicate (length (now (words .entry))) 0 ⌝ }
-{
-    let mut i = 0;
-    while i < words.len() {
-        words[i] = 0;
-        i += 1;
-    }
-}
-
-fn clear_marks(marks: &mut [u8])
-    ensures { λ _. ⌜ now (marks .exit) ≡ replicate (length (now (marks .entry))) 0 ⌝ }
-{
-    let mut i = 0;
-    while i < marks.len() {
-        marks[i] = 0;
-        i += 1;
-    }
 }
 
 // A new executor in a row, whatever the row held.

@@ -3,7 +3,7 @@
 -- Registers and memory words are one run of slots: register n is slot n, memory word m is slot 32 + m; a slot has a word and a mark.
 use mathlib.Core.List.{List}
 use Prim.Native.Nat.{ℕ, _+_, _-_, _≤_}
-use lib.ListN.{length, getD, set, drop}
+use lib.ListN.{length, getD, set, drop, replicate}
 use Rattle.effects.specs.Values.{valueAt}
 use Rattle.effects.specs.declared.value.Value.{Value}
 use Rattle.effects.specs.declared.value.Value.the-variants.{Concrete, Uninitialized}
@@ -15,9 +15,20 @@ pub record Row : Type 0 where
 abbrev pub row : List ℕ → List ℕ → Row
 row w m = record { words = w; marks = m }
 
+-- a row of zeros
+abbrev pub blank : ℕ → ℕ → Row
+blank words marks = row (replicate words 0) (replicate marks 0)
+
 -- the number of words before the slots
 abbrev pub header : ℕ
 header = 5
+
+-- how many words and marks a row of W memory words and L log words has
+abbrev pub rowWords : ℕ → ℕ → ℕ
+rowWords w l = header + 32 + w + l
+
+abbrev pub rowMarks : ℕ → ℕ
+rowMarks w = 32 + w
 
 -- what the lengths of a row's lists allow: 32 registers, and a word for each mark
 pub record Shape (words marks : List ℕ) : Type 0 where

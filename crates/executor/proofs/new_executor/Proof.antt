@@ -1,11 +1,11 @@
 use Prim.Native.Nat.{_/_}
 use borrow.Author.Needs.{needs}
 use mathlib.Core.Path.{refl, sym, _∙_}
-use native.Mathlib.Omega.{arith}
 use Rattle.rows.specs.Rows.{row}
 use Rattle.loader.specs.Loading.{segment, program}
 use Rattle.executor.specs.Entries.{creationChecked, createdRow}
-use Rattle.executor.proofs.Accepted.{sizes-refused, sizes-accepted, segments-fit}
+use Rattle.executor.proofs.Accepted.{sizes-refused, sizes-accepted}
+use Rattle.checks.proofs.Fitting.{segments-fit}
 use Rattle.executor.proofs.new_executor.Statement.{statement}
 use Rattle.executor.proofs.new_executor.Tie as tie
 

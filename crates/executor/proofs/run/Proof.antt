@@ -1,10 +1,10 @@
 use borrow.Author.Needs.{needs}
-use mathlib.Core.Path.{refl, sym, _∙_, ap}
+use mathlib.Core.Path.{sym, _∙_}
 use native.Mathlib.Omega.{arith}
 use Rattle.rows.specs.Rows.{row}
 use Rattle.checks.proofs.Passed.{valid-limit}
 use Rattle.executor.specs.Entries.{runChecked, runAnswered, runEntry}
-use Rattle.executor.proofs.Accepted.{sizes-refused, sizes-accepted, segments-fit}
+use Rattle.executor.proofs.Accepted.{sizes-refused, sizes-accepted}
 use Rattle.executor.proofs.run.Statement.{statement}
 use Rattle.executor.proofs.run.Tie as tie
 
