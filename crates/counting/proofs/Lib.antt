@@ -1,0 +1,5 @@
+pub mod Places
+pub mod Sums
+pub mod Probes
+pub mod Counts
+pub mod Examples

@@ -1,0 +1,26 @@
+-- A counter: how often a cell with a byte value occurs over all given states, repeats inside one state included.
+use mathlib.Core.Bool.{Bool, true, false, cond}
+use mathlib.Core.List.{List, [], _∷_, map}
+use Prim.Native.Nat.{ℕ, _+_}
+use lib.Dec.{eqb}
+use Rattle.rows.specs.Rows.{Row}
+use Rattle.counting.specs.Cells.{addressesOf}
+
+unfoldable pub occurrences : ℕ → List ℕ → ℕ
+occurrences a [] = 0
+occurrences a (x ∷ xs) = cond (eqb x a) 1 0 + occurrences a xs
+
+unfoldable pub counterIn : List Row → ℕ → ℕ
+counterIn [] a = 0
+counterIn (r ∷ rs) a = occurrences a (addressesOf r) + counterIn rs a
+
+-- the counters of a state's own list
+unfoldable pub countersOf : List Row → Row → List ℕ
+countersOf rows r = map (counterIn rows) (addressesOf r)
+
+-- the rows that take part: those whose flag is set
+unfoldable pub taking : List Bool → List Row → List Row
+taking [] rows = []
+taking (f ∷ fs) [] = []
+taking (true ∷ fs) (r ∷ rows) = r ∷ taking fs rows
+taking (false ∷ fs) (r ∷ rows) = taking fs rows
