@@ -11,3 +11,4 @@ pub mod SlotLists
 pub mod SoundFacts
 pub mod SoundWrites
 pub mod Sound
+pub mod ZeroMark

@@ -1,0 +1,89 @@
+-- Demand 3: every round of a call that goes on is fair, whatever the call is given.
+use mathlib.Core.Bool.{false}
+use mathlib.Core.List.{List, map}
+use mathlib.Core.Path.{_≡_, _∙_}
+use Prim.Native.Nat.{ℕ, min, _+_, _≤_}
+use native.Mathlib.Omega.{arith}
+use lib.Dec.{T}
+use lib.ListN.{length}
+use Rattle.checks.specs.Refusals.{isCopyRatio}
+use Rattle.rows.specs.Rows.{Row}
+use Rattle.store.specs.Store.{Sized}
+use Rattle.rounds.specs.Calls.{Call}
+use Rattle.rounds.specs.Demand.{All, nil, Fair, FairRound, Demand}
+use Rattle.rounds.specs.Rounds.{Start, beginning, copies, tapeShort, filled, usedAfter, rowAfter, outcomeOf, stillRunning}
+use Rattle.rounds.specs.Rounds.{stateOf, chosenOf, goes, ranOn, roundOf}
+use Rattle.rounds.proofs.Every.{every}
+use Rattle.rounds.proofs.Filling.{filled-length, filled-proper}
+use Rattle.rounds.proofs.Fronts.{front, leaves}
+use Rattle.rounds.proofs.Keeping.{round-kept, each-once, as-many, rarest-kept}
+use Rattle.rounds.proofs.Lists.{all-permuted, all-left, all-with}
+use Rattle.rounds.proofs.Proper.{Proper, not-zero}
+use Rattle.rounds.proofs.Running.{run-all-length, run-all-proper, still-running-length, still-running-all}
+
+-- what every round starts from
+pub record Ready (c : Call) (s : Start) : Type 0 where
+  pub proper : All (Proper (c .layout)) (s .kept)
+  pub few : length (s .kept) ≤ c .layout .rows
+
+pub begins : (c : Call) → Ready c beginning
+begins c = record { proper = nil; few = omega arith }
+
+module _ (c : Call) (sized : Sized (c .layout)) (ratio : T (isCopyRatio (c .options .«copy_init_ratio»))) where
+  module _ (s : Start) (ready : Ready c s) (tape : tapeShort c s ≡ false) where
+    abbrev running : List Row
+    running = stillRunning (roundOf c s .runs)
+
+    pub runs-length : length (roundOf c s .runs) ≡ c .layout .rows
+    unfolding roundOf ranOn
+    runs-length =
+        run-all-length (c .options .«step_size») (c .tape) (s .used + copies c s) (filled c s)
+        ∙ filled-length c s sized ratio (ready .few) tape
+
+    running-proper : All (Proper (c .layout)) running
+    unfolding roundOf ranOn
+    running-proper =
+        still-running-all (roundOf c s .runs)
+        (run-all-proper (c .layout) (c .options .«step_size») (c .tape) (s .used + copies c s) (filled-proper c s sized (ready .proper)))
+
+    running-few : length running ≤ c .layout .rows
+    running-few = let n = still-running-length (roundOf c s .runs) in omega (arith, runs-length)
+
+    module _ (next : Start) (e : roundOf c s .after ≡ goes next) where
+      kept : next .kept ≡ map stateOf (chosenOf (c .options) running .kept)
+      unfolding roundOf ranOn
+      kept =
+          let runs = roundOf c s .runs in
+          round-kept c (outcomeOf runs) (map rowAfter runs) (usedAfter (s .used + copies c s) runs) running next e
+
+      kept-proper : All (Proper (c .layout)) (next .kept)
+      kept-proper =
+          let chosen = chosenOf (c .options) running in
+          rw kept (all-left (map stateOf (chosen .kept)) (map stateOf (chosen .passed)) (all-permuted (each-once c running) running-proper))
+
+      kept-as-many : length (next .kept) ≡ min (c .options .selection) (length running)
+      kept-as-many = rw kept (as-many c running)
+
+      pub handed-on : Ready c next
+      handed-on = record { proper = kept-proper; few = omega (arith, kept-as-many, running-few) }
+
+      pub fair : Fair c (roundOf c s) next
+      fair =
+          record {
+            each-once = rw kept (each-once c running);
+            as-many = kept-as-many;
+            rarest =
+                rw kept
+                (rarest-kept c running (omega (arith, running-few, sized .few)) (all-with (λ r h. omega (arith, h .marks, sized .memory)) running-proper));
+            not-zero = all-with (λ r h. not-zero sized h) kept-proper;
+          }
+
+-- a store and a copy ratio that document 01 allows are all that is asked of a call
+pub demand : (c : Call) (n : ℕ) → Sized (c .layout) → T (isCopyRatio (c .options .«copy_init_ratio»)) → Demand c n
+demand c n sized ratio =
+    record {
+      every =
+          every c (Ready c) (FairRound c) (fair c sized ratio) (λ s t ready tape e. handed-on c sized ratio s ready tape t e) n beginning (begins c);
+      front = λ k h. front c k n beginning h;
+      leaves = λ k r next. leaves c k beginning r next;
+    }

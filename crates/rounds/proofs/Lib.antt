@@ -1,0 +1,11 @@
+pub mod Lists
+pub mod Choosing
+pub mod Floats
+pub mod Copies
+pub mod Proper
+pub mod Filling
+pub mod Running
+pub mod Keeping
+pub mod Every
+pub mod Fronts
+pub mod Demand

@@ -1,0 +1,20 @@
+-- What a search call is given.
+use mathlib.Core.List.{List}
+use Prim.Native.Nat.{ℕ, _/_}
+use Rattle.loader.specs.Loading.{Program}
+use Rattle.store.specs.Store.{layout}
+use Rattle.store.specs.declared.layout.Layout.{Layout}
+use Rattle.rounds.specs.declared.options.RaritySimulationOptions.{RaritySimulationOptions}
+
+-- the store of a search: one row a state, of W memory words and L log words
+abbrev pub layoutOf : RaritySimulationOptions → ℕ → Layout
+layoutOf o log = layout (o .«amount_of_states») (o .«memory_size» / 8) log
+
+pub record Call : Type 0 where
+  pub options : RaritySimulationOptions
+  pub layout : Layout
+  pub image : Program
+  pub tape : List ℕ
+
+abbrev pub call : RaritySimulationOptions → Layout → Program → List ℕ → Call
+call o s p tape = record { options = o; layout = s; image = p; tape = tape }

@@ -1,0 +1,14 @@
+-- How many of the missing executors are copies ("Filling" in document 01).
+use Prim.Native.Nat.{ℕ, _+_, _*_, _/_}
+use lib.IntN.{pos}
+use lib.Ieee.{Float, nan, inf, fin, binary64, mul, ofInt, up, down}
+
+-- the whole number nearest to x, halves up; x is (m × up e) / down e
+unfoldable pub nearest : Float → ℕ
+nearest nan = 0
+nearest (inf s) = 0
+nearest (fin s m e) = (2 * (m * up e) + down e) / (2 * down e)
+
+-- missing × ratio, one f64 product, rounded to the nearest whole number, halves up
+unfoldable pub toCopy : ℕ → Float → ℕ
+toCopy missing ratio = nearest (mul binary64 (ofInt binary64 (pos missing)) ratio)

@@ -1,0 +1,8 @@
+pub mod Defaults
+pub mod Findings
+pub mod Calls
+pub mod Copies
+pub mod Selection
+pub mod Rounds
+pub mod Demand
+pub mod Holding
