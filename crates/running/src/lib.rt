@@ -1,0 +1,149 @@
+// Every executor run for a step, in row order (the Rust's run_all). For the layers above.
+ghost use mathlib.Core.List.{map};
+ghost use mathlib.Core.Path.{_≡_};
+ghost use Prim.Native.Nat.{_+_, _<_, _^_};
+ghost use lib.ListN.{length, set};
+ghost use Rattle.rows.specs.Rows.{limitOf};
+ghost use Rattle.machine.specs.Runs.{runOf};
+ghost use Rattle.store.specs.Store.{Fit, rowsOf, rowAt};
+ghost use Rattle.rounds.specs.Rounds.{runAll, rowAfter, isRunning, runningFlag};
+ghost use Rattle.running.specs.Choice.{chosen, orFirstBug, orFirstError};
+ghost use Rattle.running.specs.Running.{LimitsAllow, allRan};
+use answers::outcome::Outcome;
+use answers::outcome::Progress;
+use machine::run::Ran;
+use machine::run::run;
+use rounds::finding::Finding;
+use store::layout::Layout;
+
+// The first bug in row order, else the first error, else nothing; and how many tape words are used.
+pub struct AllRan {
+    pub finding: Finding,
+    pub used: usize,
+}
+
+// A bug that was met earlier stays.
+fn or_first_bug(best: Finding, new: Finding) -> Finding
+    ensures { λ f. ⌜ f ≡ orFirstBug best new ⌝ }
+{
+    match best {
+        Finding::Found {
+            bug: _,
+            row: _,
+            pc: _,
+        } => best,
+        Finding::Nothing => new,
+        Finding::Failed {
+            error: _,
+            row: _,
+            pc: _,
+        } => new,
+        Finding::TapeShort => new,
+        Finding::ScoresUnordered => new,
+    }
+}
+
+// Whatever was met earlier stays.
+fn or_first_error(best: Finding, new: Finding) -> Finding
+    ensures { λ f. ⌜ f ≡ orFirstError best new ⌝ }
+{
+    match best {
+        Finding::Nothing => new,
+        Finding::Found {
+            bug: _,
+            row: _,
+            pc: _,
+        } => best,
+        Finding::Failed {
+            error: _,
+            row: _,
+            pc: _,
+        } => best,
+        Finding::TapeShort => best,
+        Finding::ScoresUnordered => best,
+    }
+}
+
+// The finding of the rows up to `row`, from that of the rows before it and its own run.
+fn choose(best: Finding, row: usize, ran: Ran) -> Finding
+    ensures { λ f. ⌜ f ≡ chosen best row ran ⌝ }
+{
+    let progress = ran.progress;
+    let Progress::Ended(outcome) = progress else {
+        return best;
+    };
+    let pc = ran.pc;
+    match outcome {
+        Outcome::Exited => best,
+        Outcome::Found(bug) => {
+            let found = Finding::Found { bug, row, pc };
+            or_first_bug(best, found)
+        }
+        Outcome::Failed(error) => {
+            let failed = Finding::Failed { error, row, pc };
+            or_first_error(best, failed)
+        }
+    }
+}
+
+fn still_running(progress: Progress) -> bool
+    ensures { λ b. ⌜ b ≡ isRunning progress ⌝ }
+{
+    match progress {
+        Progress::Running => true,
+        Progress::Ended(_) => false,
+    }
+}
+
+// Runs row r where it lies, and flags it.
+fn run_row(
+    words: &mut [u64],
+    marks: &mut [u8],
+    store: Layout,
+    running: &mut [bool],
+    step: u32,
+    tape: &[u64],
+    used: usize,
+    r: usize,
+) -> Ran
+    requires { ⌜ Fit store (now words) (now marks) ⌝ ∗ ⌜ length (now running) ≡ store .rows ⌝ ∗ ⌜ r < store .rows ⌝ ∗ ⌜ limitOf (rowAt (rowsOf store (now words) (now marks)) r) + step < 2 ^ 64 ⌝ }
+    ensures { λ ran. ⌜ ran ≡ runOf step (now (tape .entry)) used (rowAt (rowsOf store (now (words .entry)) (now (marks .entry))) r) .ran ⌝ ∗ ⌜ rowsOf store (now (words .exit)) (now (marks .exit)) ≡ set (rowsOf store (now (words .entry)) (now (marks .entry))) r (rowAfter (runOf step (now (tape .entry)) used (rowAt (rowsOf store (now (words .entry)) (now (marks .entry))) r))) ⌝ ∗ ⌜ now (running .exit) ≡ set (now (running .entry)) r (runningFlag (runOf step (now (tape .entry)) used (rowAt (rowsOf store (now (words .entry)) (now (marks .entry))) r))) ⌝ }
+{
+    let from_word = r * store.words;
+    let from_mark = r * store.marks;
+    let ran = run(
+        &mut words[from_word..from_word + store.words],
+        &mut marks[from_mark..from_mark + store.marks],
+        step,
+        tape,
+        used,
+    );
+    let progress = ran.progress;
+    running[r] = still_running(progress);
+    ran
+}
+
+// Runs all rows, even past a bug, and flags those that are still running.
+pub fn run_all(
+    words: &mut [u64],
+    marks: &mut [u8],
+    store: Layout,
+    running: &mut [bool],
+    step: u32,
+    tape: &[u64],
+    used: usize,
+) -> AllRan
+    requires { ⌜ Fit store (now words) (now marks) ⌝ ∗ ⌜ length (now running) ≡ store .rows ⌝ ∗ ⌜ LimitsAllow step (rowsOf store (now words) (now marks)) ⌝ }
+    ensures { λ r. ⌜ r ≡ allRan used (runAll step (now (tape .entry)) used (rowsOf store (now (words .entry)) (now (marks .entry)))) ⌝ ∗ ⌜ rowsOf store (now (words .exit)) (now (marks .exit)) ≡ map rowAfter (runAll step (now (tape .entry)) used (rowsOf store (now (words .entry)) (now (marks .entry)))) ⌝ ∗ ⌜ now (running .exit) ≡ map runningFlag (runAll step (now (tape .entry)) used (rowsOf store (now (words .entry)) (now (marks .entry)))) ⌝ }
+{
+    let mut finding = Finding::Nothing;
+    let mut at = used;
+    let mut r = 0;
+    while r < store.rows {
+        let ran = run_row(words, marks, store, running, step, tape, at, r);
+        finding = choose(finding, r, ran);
+        at = ran.used;
+        r += 1;
+    }
+    AllRan { finding, used: at }
+}

@@ -1,0 +1,94 @@
+-- The numbers that are kept are numbers of rows, each once.
+use mathlib.Core.Bool.{Bool, true, false}
+use mathlib.Core.List.{List, [], _∷_, map}
+use mathlib.Core.Path.{_≡_, refl, sym, ap, _∙_}
+use Prim.Native.Nat.{ℕ, zero, suc, _+_, _≤_, _<_}
+use native.Mathlib.Nat.{not-suc-le-zero, le-of-suc-le-suc}
+use native.Mathlib.Omega.{arith}
+use lib.Ieee.{Float, nan}
+use lib.ListN.{length, getD, take, length-map}
+use lib.Seq.{getD-take}
+use Rattle.rounds.specs.Selection.{rarest}
+use Rattle.rounds.specs.Demand.{All, nil, cons}
+use Rattle.selection.specs.declared.order.ScoredRow.{ScoredRow}
+use Rattle.selection.specs.Selecting.{candidates, lowerScore, numberOf, keptNumbers}
+use Rattle.selection.specs.Places.{Numbers}
+use Rattle.selection.proofs.Rarest.{Pairs, no-pair, pairs, all-get, pairs-get, kept-few, kept-all, kept-pairs}
+use Rattle.selection.proofs.Finding.{candidates-few}
+
+-- the number of a row from i on, below n
+record Between (i n : ℕ) (x : ScoredRow) : Type 0 where
+  low : i ≤ x .row
+  high : x .row < n
+
+abbrev Apart : ScoredRow → ScoredRow → Type 0
+Apart x y = x .row ≡ y .row → ⊥
+
+apart-flip : (x y : ScoredRow) → Apart x y → Apart y x
+apart-flip x y h e = h (sym e)
+
+later : (i n : ℕ) (l : List ScoredRow) → All (Between (suc i) n) l → All (Between i n) l
+later i n [] nil = nil
+later i n (x ∷ l) (cons b a) =
+    let c : Between i n x = record { low = omega (arith, b .low); high = b .high } in
+    cons c (later i n l a)
+
+all-apart : (i n : ℕ) (s : Float) (l : List ScoredRow) → All (Between (suc i) n) l → All (Apart (record { row = i; score = s })) l
+all-apart i n s [] nil = nil
+all-apart i n s (x ∷ l) (cons b a) = cons (no (b .low)) (all-apart i n s l a)
+  where
+    no : {r : ℕ} → suc i ≤ r → i ≡ r → ⊥
+    no h e = omega arith
+
+candidates-between : (i n : ℕ) (scores : List Float) (flags : List Bool) → i + length scores ≤ n → All (Between i n) (candidates i scores flags)
+unfolding candidates
+candidates-between i n [] flags h = nil
+candidates-between i n (s ∷ scores) [] h = nil
+candidates-between i n (s ∷ scores) (true ∷ flags) h =
+    let b : Between i n (record { row = i; score = s }) = record { low = omega arith; high = omega arith } in
+    cons b (later i n _ (candidates-between (suc i) n scores flags (omega arith)))
+candidates-between i n (s ∷ scores) (false ∷ flags) h = later i n _ (candidates-between (suc i) n scores flags (omega arith))
+
+candidates-apart : (i : ℕ) (scores : List Float) (flags : List Bool) → Pairs Apart (candidates i scores flags)
+unfolding candidates
+candidates-apart i [] flags = no-pair
+candidates-apart i (s ∷ scores) [] = no-pair
+candidates-apart i (s ∷ scores) (true ∷ flags) =
+    pairs (all-apart i (suc i + length scores) s _ (candidates-between (suc i) (suc i + length scores) scores flags (omega arith))) (candidates-apart (suc i) scores flags)
+candidates-apart i (s ∷ scores) (false ∷ flags) = candidates-apart (suc i) scores flags
+
+pub map-get : {A : Type 0} {B : Type 0} (f : A → B) (l : List A) (j : ℕ) (d : A) (e : B) → j < length l → getD (map f l) j e ≡ f (getD l j d)
+map-get f [] j d e h = absurd (not-suc-le-zero h)
+map-get f (x ∷ l) zero d e h = refl
+map-get f (x ∷ l) (suc j) d e h = map-get f l j d e (le-of-suc-le-suc h)
+
+module _ (k : ℕ) (scores : List Float) (flags : List Bool) (order : List ℕ) {kept : ℕ} (many : kept ≡ length (keptNumbers k scores flags))
+    (same : take kept order ≡ keptNumbers k scores flags) where
+  abbrev chosen : List ScoredRow
+  chosen = rarest lowerScore k (candidates 0 scores flags) .kept
+
+  abbrev no-row : ScoredRow
+  no-row = record { row = 0; score = nan }
+
+  short : kept ≡ length chosen
+  unfolding keptNumbers
+  short = many ∙ length-map chosen numberOf
+
+  entry : (j : ℕ) → j < kept → getD order j 0 ≡ getD chosen j no-row .row
+  unfolding keptNumbers
+  entry j h = sym (getD-take kept order j 0 h) ∙ ap (λ (l : List ℕ). getD l j 0) same ∙ map-get numberOf chosen j no-row 0 (omega (arith, short))
+
+  pub numbers : {n : ℕ} → length scores ≡ n → n ≤ length order → Numbers n kept order
+  numbers {n} e room =
+      let f : kept ≤ n = omega (arith, short, kept-few lowerScore k (candidates 0 scores flags), candidates-few 0 scores flags) in
+      record { many = omega arith; few = f; within = λ j h. in-rows j h; apart = λ a b h l q. two a b h l q }
+    where
+      in-rows : (j : ℕ) → j < kept → getD order j 0 < n
+      in-rows j h =
+          let b = all-get j no-row (kept-all lowerScore k (candidates 0 scores flags) (candidates-between 0 n scores flags (omega arith))) (omega (arith, short)) in
+          omega (arith, b .high, entry j h)
+
+      two : (a b : ℕ) → a < b → b < kept → getD order a 0 ≡ getD order b 0 → ⊥
+      two a b h l q =
+          pairs-get a b no-row (kept-pairs lowerScore Apart apart-flip k (candidates 0 scores flags) (candidates-apart 0 scores flags)) h (omega (arith, short))
+          (sym (entry a (omega arith)) ∙ q ∙ entry b l)
