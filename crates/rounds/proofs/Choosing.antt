@@ -10,7 +10,7 @@ use Rattle.rounds.specs.Demand.{Inserted, Permutation, none, one, All, n
 use Rattle.rounds.specs.Selection.{Spot, Chosen, removeAt, lowestFrom, rarest}
 use Rattle.rounds.proofs.Lists.{permutation-refl, inserted-length, inserted-at, all-inserted, all-permuted, all-right, remove-map}
 
-abbrev spot : {A : Type 0} → ℕ → A → Spot A
+abbrev pub spot : {A : Type 0} → ℕ → A → Spot A
 spot i x = record { at = i; what = x }
 
 module _ {A : Type 0} (lower : A → A → Bool) where
@@ -28,27 +28,27 @@ module _ {A : Type 0} (lower : A → A → Bool) where
       cases true p = p
       cases false p = ps
 
-  abbrev lowest : A → List A → Spot A
+  abbrev pub lowest : A → List A → Spot A
   lowest x xs = lowestFrom lower (spot 0 x) 1 xs
 
-  abbrev rest : A → List A → List A
+  abbrev pub rest : A → List A → List A
   rest x xs = removeAt (lowest x xs .at) (x ∷ xs)
 
   -- a spot of the list l
-  record Placed (l : List A) (d : A) (s : Spot A) : Type 0 where
-    within : s .at < length l
-    held : getD l (s .at) d ≡ s .what
+  pub record Placed (l : List A) (d : A) (s : Spot A) : Type 0 where
+    pub within : s .at < length l
+    pub there-it-is : getD l (s .at) d ≡ s .what
 
-  lowest-placed : (x : A) (xs : List A) → Placed (x ∷ xs) x (lowest x xs)
+  pub lowest-placed : (x : A) (xs : List A) → Placed (x ∷ xs) x (lowest x xs)
   lowest-placed x xs =
       lowest-in (Placed (x ∷ xs) x) (spot 0 x) 1 xs x
-      (record { within = omega arith; held = refl })
-      (λ k h. record { within = omega arith; held = let e : 1 + k ≡ suc k = omega arith in rw e })
+      (record { within = omega arith; there-it-is = refl })
+      (λ k h. record { within = omega arith; there-it-is = let e : 1 + k ≡ suc k = omega arith in rw e })
 
-  lowest-inserted : (x : A) (xs : List A) → Inserted (lowest x xs .what) (rest x xs) (x ∷ xs)
+  pub lowest-inserted : (x : A) (xs : List A) → Inserted (lowest x xs .what) (rest x xs) (x ∷ xs)
   lowest-inserted x xs =
-      let p = lowest-placed x xs in
-      subst (λ (y : A). Inserted y (rest x xs) (x ∷ xs)) (p .held) (inserted-at (lowest x xs .at) (x ∷ xs) x (p .within))
+      let placed = lowest-placed x xs in
+      subst (λ (y : A). Inserted y (rest x xs) (x ∷ xs)) (placed .there-it-is) (inserted-at (lowest x xs .at) (x ∷ xs) x (placed .within))
 
   -- ---- each element is kept or passed over, once
   pub rarest-each-once : (k : ℕ) (l : List A) → Permutation (rarest lower k l .kept ++ rarest lower k l .passed) l

@@ -63,6 +63,14 @@ filled c s =
     ++ replicate (missing c s - copies c s) (newRow c))
 
 -- ---- running every executor in row order (run_all), each from where the last one left the tape
+-- 22: not an error to the search
+abbrev pub isRunning : Progress → Bool
+isRunning Running = true
+isRunning (Ended o) = false
+
+abbrev pub runningFlag : Finished → Bool
+runningFlag x = isRunning (x .ran .progress)
+
 unfoldable pub runAll : ℕ → List ℕ → ℕ → List Row → List Finished
 runAll step tape used [] = []
 runAll step tape used (r ∷ rows) = let x = runOf step tape used r in x ∷ runAll step tape (x .ran .used) rows
@@ -102,13 +110,6 @@ abbrev pub outcomeOf : List Finished → Finding
 outcomeOf runs = firstBug 0 runs (firstError 0 runs Nothing)
 
 -- ---- keeping the rarest (filter_successfully_exited, select_rarest)
-abbrev pub isRunning : Progress → Bool
-isRunning Running = true
-isRunning (Ended o) = false
-
-abbrev pub runningFlag : Finished → Bool
-runningFlag x = isRunning (x .ran .progress)
-
 -- executors that exited are removed
 abbrev pub stillRunning : List Finished → List Row
 stillRunning runs = taking (map runningFlag runs) (map rowAfter runs)

@@ -10,12 +10,13 @@ use lib.Ieee.{Float, nan}
 use lib.ListN.{length, getD, take, drop, set, length-set, drop-of-length-le}
 use lib.Seq.{drop-cons, take-suc, take-suc-set, take-all, length-take-le, set-at}
 use Rattle.rounds.specs.Selection.{Spot, removeAt, lowestFrom, rarest}
+use Rattle.rounds.proofs.Lists.{inserted-length}
+use Rattle.rounds.proofs.Choosing.{lowest-placed, lowest-inserted}
 use Rattle.selection.specs.declared.order.ScoredRow.{ScoredRow}
 use Rattle.selection.specs.declared.order.Lowest.{Lowest}
 use Rattle.selection.specs.declared.order.Lowest.the-variants.{None, One}
 use Rattle.selection.specs.Selecting.{candidates, lowerScore, numberOf, keptNumbers}
 use Rattle.selection.specs.Scanning.{lowerOf, considered, lowestIn}
-use Rattle.selection.proofs.Rarest.{lowest-at, fewer}
 
 -- ---- the search
 
@@ -154,10 +155,10 @@ module _ {k : ℕ} {scores : List Float} {flags live : List Bool} {order : List 
       absurd (omega arith)
   turn h x (y ∷ ys) e b =
       let s = lowestFrom lowerScore (record { at = 0; what = y }) 1 ys in
-      let a = lowest-at lowerScore y ys in
+      let a = lowest-placed lowerScore y ys in
       let x-is : s .what ≡ x = one-is (s .what) x (sym (scan-spot (record { at = 0; what = y }) 1 ys) ∙ sym b) in
-      let at : s .at < length (candidates 0 scores live) = subst (λ (l : List ScoredRow). s .at < length l) (sym e) (a .0) in
-      let is : getD (candidates 0 scores live) (s .at) y ≡ x = ap (λ (l : List ScoredRow). getD l (s .at) y) e ∙ a .1 ∙ x-is in
+      let at : s .at < length (candidates 0 scores live) = subst (λ (l : List ScoredRow). s .at < length l) (sym e) (a .within) in
+      let is : getD (candidates 0 scores live) (s .at) y ≡ x = ap (λ (l : List ScoredRow). getD l (s .at) y) e ∙ a .there-it-is ∙ x-is in
       let w : Within 0 scores live (s .at) x = subst (λ (c : ScoredRow). Within 0 scores live (s .at) c) is (within 0 scores live (s .at) y at) in
       let r0 : x .row - 0 ≡ x .row = omega arith in
       let others = removeAt (s .at) (y ∷ ys) in
@@ -176,7 +177,7 @@ module _ {k : ℕ} {scores : List Float} {flags live : List Bool} {order : List 
               upto = omega arith;
               lives = subst (λ (j : ℕ). length scores ≤ j) (sym (length-set live (x .row) false)) (o .lives);
               space = subst (λ (j : ℕ). length scores ≤ j) (sym (length-set order kept (x .row))) (o .space);
-              count = omega (arith, o .count, lc, lg, fewer lowerScore y ys);
+              count = omega (arith, o .count, lc, lg, inserted-length (lowest-inserted lowerScore y ys));
               same =
                   o .same
                   ∙ ap (λ (l : List ScoredRow). take kept order ++ map numberOf (rarest lowerScore (k - kept) l .kept)) e

@@ -1,4 +1,4 @@
-pub mod Rarest
+pub mod Pairs
 pub mod Finding
 pub mod Kept
 pub mod Placing

@@ -11,10 +11,10 @@ use Rattle.counting.specs.Counters.{taking}
 use Rattle.means.specs.declared.MeanType.{MeanType}
 use Rattle.rarity.specs.Scores.{score, scoresAmong, flaggedScores}
 use Rattle.rounds.specs.Rounds.{Ranked, stateOf, rankedAmong, lower}
-use Rattle.rounds.specs.Selection.{rarest}
+use Rattle.rounds.specs.Selection.{Chosen, rarest}
+use Rattle.rounds.proofs.Choosing.{rarest-map}
 use Rattle.selection.specs.declared.order.ScoredRow.{ScoredRow}
 use Rattle.selection.specs.Selecting.{candidates, lowerScore, numberOf, keptNumbers, keptRows}
-use Rattle.selection.proofs.Rarest.{rarest-map}
 
 -- a numbered row with its score is a state with its rank
 abbrev ranked : List Row → ScoredRow → Ranked
@@ -57,7 +57,7 @@ module _ (m : MeanType) (k : ℕ) (flags : List Bool) (rows : List Row) where
       let from-0 : From m running rows 0 rows = λ j. ap (λ (i : ℕ). rowAt rows i) (omega arith) in
       sym
       (ap (λ (l : List Ranked). map stateOf (rarest lower k l .kept)) (sym (ranked-candidates m running rows 0 flags rows from-0))
-      ∙ ap (λ (l : List Ranked). map stateOf l) (rarest-map (ranked rows) lowerScore lower (λ x y. refl) k c)
+      ∙ ap (λ (z : Chosen Ranked). map stateOf (z .kept)) (rarest-map (ranked rows) lower k c)
       ∙ ranked-states rows (rarest lowerScore k c .kept))
 
   pub kept-states-count : length (keptNumbers k (flaggedScores m flags rows) flags)

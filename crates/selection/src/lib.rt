@@ -1,5 +1,5 @@
 // The rarest rows come first, and the others become zero (the Rust's select_rarest). For the layers above.
-// The order is found on numbers; then each kept row is moved at most once, and at most one other out of its way.
+// The order is found on numbers; then for each kept row at most one exchange of two rows is made.
 ghost use mathlib.Core.Path.{_≡_};
 ghost use lib.ListN.{length};
 ghost use Rattle.store.specs.Store.{Fit, rowsOf};
