@@ -1,4 +1,4 @@
--- P8 of document 01, and a small row: bytes of different registers in one cell are counted together, and an uninitialised word is not.
+-- A small row: bytes of different registers in one cell are counted together, and an uninitialised word is not.
 use mathlib.Core.Path.{_≡_, refl}
 use mathlib.Core.List.{_∷_}
 use lib.ListN.{replicate}
@@ -6,15 +6,6 @@ use Rattle.effects.specs.Values.{valueAt}
 use Rattle.rows.specs.Rows.{Row, row}
 use Rattle.counting.specs.Cells.{placeAt, baseOf, cellOf, addressOf, byteAddresses, addressesTo, addressesOf}
 use Rattle.counting.specs.Counters.{occurrences}
-
--- register 8 is place 9, register 0 place 1
-pub p8-register-8-byte-0 : cellOf 9 0 ≡ 16
-unfolding baseOf
-p8-register-8-byte-0 = refl
-
-pub p8-register-0-byte-1 : cellOf 1 1 ≡ 16
-unfolding baseOf
-p8-register-0-byte-1 = refl
 
 -- pc 0; register 0 is 0x700, register 8 is 7, register 1 is 7 but uninitialised, and the others are uninitialised too
 abbrev sample : Row
