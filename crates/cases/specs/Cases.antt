@@ -1,5 +1,4 @@
 -- Document 01's proved cases, P1 to P12, and its whole case: one table of what the definitions come to.
-use mathlib.Core.Bool.{false}
 use mathlib.Core.List.{List, [], _∷_}
 use mathlib.Core.Path.{_≡_}
 use Prim.Native.Nat.{ℕ, _+_, _-_, _^_}
@@ -22,7 +21,7 @@ use Rattle.rows.specs.Execution.{applied}
 use Rattle.reading.specs.Reading.{tail}
 use Rattle.calls.specs.Calls.{brk, validRange}
 use Rattle.calls.specs.declared.transfer.Transfer.the-variants.{Buffer, Refused}
-use Rattle.loader.specs.Loading.{Program, segment, program, newExecutor}
+use Rattle.loader.specs.Loading.{segment, program, newExecutor}
 use Rattle.machine.specs.Steps.{fetched}
 use Rattle.machine.specs.Runs.{runOf, stops}
 use Rattle.machine.specs.declared.step.Fetched.the-variants.{Word}

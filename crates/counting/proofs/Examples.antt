@@ -4,7 +4,7 @@ use mathlib.Core.List.{_∷_}
 use lib.ListN.{replicate}
 use Rattle.effects.specs.Values.{valueAt}
 use Rattle.rows.specs.Rows.{Row, row}
-use Rattle.counting.specs.Cells.{placeAt, baseOf, cellOf, addressOf, byteAddresses, addressesTo, addressesOf}
+use Rattle.counting.specs.Cells.{placeAt, baseOf, addressOf, byteAddresses, addressesTo, addressesOf}
 use Rattle.counting.specs.Counters.{occurrences}
 
 -- pc 0; register 0 is 0x700, register 8 is 7, register 1 is 7 but uninitialised, and the others are uninitialised too

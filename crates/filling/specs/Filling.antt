@@ -1,7 +1,7 @@
 -- What filling answers, and the rows that it leaves: the definition of a round in rounds/specs, with 8.
 use mathlib.Core.Bool.{cond}
 use mathlib.Core.List.{List}
-use Prim.Native.Nat.{ℕ, _+_}
+use Prim.Native.Nat.{_+_}
 use Rattle.rows.specs.Rows.{Row}
 use Rattle.rounds.specs.Calls.{Call}
 use Rattle.rounds.specs.Rounds.{Start, stored, copies, tapeShort, filled}

@@ -4,8 +4,7 @@ use mathlib.Core.List.{List, [], _∷_}
 use Prim.Native.Nat.{ℕ}
 use lib.Ieee.{binary64, add, div, ofInt, toBits}
 use Rattle.means.specs.declared.MeanType.the-variants.{Arithmetic, Harmonic}
-use Rattle.means.specs.Means.{reciprocals, sum, product, shares, mean, exactMean}
-use Rattle.means.proofs.Fractions.{fraction}
+use Rattle.means.specs.Means.{reciprocals, sum, mean}
 
 abbrev counters : List ℕ
 counters = 1 ∷ 2 ∷ []

@@ -2,7 +2,7 @@
 use mathlib.Core.Path.{_≡_, refl, _∙_}
 use Prim.Native.Nat.{ℕ, _+_, _<_}
 use native.Mathlib.Omega.{arith}
-use lib.ListN.{length, getD, set, length-set}
+use lib.ListN.{length, getD, length-set}
 use lib.Seq.{getD-set-other}
 use Rattle.effects.specs.declared.value.Value.{Value}
 use Rattle.effects.specs.declared.effect.Effect.{Effect}

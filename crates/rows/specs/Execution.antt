@@ -1,5 +1,4 @@
 -- An effect carried out on a row.
-use Prim.Native.Nat.{ℕ}
 use Rattle.riscu.specs.declared.instruction.Instruction.{Instruction}
 use Rattle.effects.specs.Effects.{effectOf}
 use Rattle.effects.specs.declared.effect.Effect.{Effect}

@@ -1,6 +1,5 @@
 -- `rarity::tally_row`: the counters of one place more are taken in, eight where its word is concrete and none otherwise.
 use mathlib.Core.Logic.{⊎-elim}
-use mathlib.Core.Path.{_≡_}
 use Prim.Native.Nat.{_+_, _-_, _≤_}
 use native.Mathlib.Omega.{arith}
 use borrow.Author.Needs.{needs}
