@@ -7,7 +7,7 @@ use borrow.Author.Tests.{eqb-true, leb-true, ne-eqb}
 use lib.Dec.{eqb, leb}
 use Rattle.rows.specs.Rows.{Row, rowWords, rowMarks, limitOf}
 use Rattle.rows.specs.Valid.{soundRow, validRow}
-use Rattle.checks.specs.Refusals.{isMemorySize, isLogSize, areLengths, isWhole, isInside}
+use Rattle.checks.specs.Refusals.{isMemorySize, isAmountOfStates, isLogSize, areLengths, isWhole, isInside}
 
 pub memory-size : (bytes : ℕ) → isMemorySize bytes ≡ true → (bytes % 1024 ≡ 0) × (1024 ≤ bytes) × (bytes ≤ 1048576)
 memory-size bytes h =
@@ -16,6 +16,11 @@ memory-size bytes h =
     let outer = and-eq-true-iff (whole && enough) (leb bytes 1048576) .0 h in
     let inner = and-eq-true-iff whole enough .0 (outer .0) in
     (eqb-true _ _ (inner .0), leb-true _ _ (inner .1), leb-true _ _ (outer .1))
+
+pub amount-of-states : (states : ℕ) → isAmountOfStates states ≡ true → (1 ≤ states) × (states ≤ 4096)
+amount-of-states states h =
+    let both = and-eq-true-iff (leb 1 states) (leb states 4096) .0 h in
+    (leb-true _ _ (both .0), leb-true _ _ (both .1))
 
 pub log-size : (l : ℕ) → isLogSize l ≡ true → l ≤ 65536
 log-size l h = leb-true _ _ h

@@ -1,2 +1,4 @@
 pub mod Rows
 pub mod Moves
+pub mod Lent
+pub mod Fronts

@@ -1,0 +1,78 @@
+-- `scoring::score_with_mean`: what each test that passed gives to the next call.
+use mathlib.Core.Path.{refl, _∙_}
+use borrow.Author.Needs.{needs}
+use Rattle.scoring.specs.Entry.{scoresLeft}
+use Rattle.scoring.proofs.Accepted.{sizes-accepted, valid-answer, invalid-answer, refused-answer}
+use Rattle.scoring.proofs.score_with_mean.Statement.{statement}
+use Rattle.scoring.proofs.score_with_mean.Tie as tie
+
+check-sizes-requires : tie.Need-check-sizes-requires
+check-sizes-requires c κs = search needs
+
+enum-told : tie.Need-enum-told
+enum-told c = search needs
+
+new-requires : tie.Need-new-requires
+new-requires c κs =
+    let a = c .before .before .before .before .before .before .args in
+    let z = sizes-accepted (a .memory) (a .log) (a .rows) (a .words .now) (a .marks .now) (a .scores .now) _
+    (c .before .before .check-sizes .ensures) (c .enum-told .given .1) in
+    (z .memory-most, z .log-most)
+
+all-valid-requires : tie.Need-all-valid-requires
+all-valid-requires c κs =
+    let a = c .before .before .before .before .before .before .before .args in
+    let z = sizes-accepted (a .memory) (a .log) (a .rows) (a .words .now) (a .marks .now) (a .scores .now) _
+    (c .before .before .before .check-sizes .ensures) (c .before .enum-told .given .1) in
+    rw (c .new .ensures) (z .fit)
+
+score-store-requires : tie.Need-score-store-requires
+score-store-requires c κs =
+    let a = c .before .before .before .before .before .before .before .before .before .before .args in
+    let z = sizes-accepted (a .memory) (a .log) (a .rows) (a .words .now) (a .marks .now) (a .scores .now) _
+    (c .before .before .before .before .before .before .check-sizes .ensures) (c .before .before .before .before .enum-told .given .1) in
+    rw (c .before .before .before .new .ensures) (z .fit, z .one-each)
+
+enum-known-sizes : tie.Need-enum-known-sizes
+enum-known-sizes c = search needs
+
+same-length : tie.Need-same-length
+same-length c = search needs
+
+returns : tie.Need-returns
+returns c =
+    let i = c .before .before .before .before in
+    let n = i .before .before .new .ensures in
+    let t = i .before .before .before in
+    let a = c .before .before .before .before .before .before .before .before .before .before .before .before .before .args in
+    let z = sizes-accepted (a .memory) (a .log) (a .rows) (a .words .now) (a .marks .now) (a .scores .now) _
+    (t .before .before .check-sizes .ensures) (t .enum-told .given .1) in
+    let x = rw n at (c .before .before .score-store .ensures) in
+    (x .0 ∙ valid-answer _ _ _ _ _ _ z n (i .before .all-valid .ensures) _ (i .if1 .taken), x .1)
+
+returns-2 : tie.Need-returns-2
+unfolding scoresLeft
+returns-2 c =
+    let a = c .before .before .before .before .before .before .before .before .before .args in
+    let z = sizes-accepted (a .memory) (a .log) (a .rows) (a .words .now) (a .marks .now) (a .scores .now) _
+    (c .before .before .before .before .before .check-sizes .ensures) (c .before .before .before .enum-told .given .1) in
+    (invalid-answer _ _ _ _ _ _ z (c .before .before .new .ensures) (c .before .all-valid .ensures) _ (c .if1 .left), refl)
+
+returns-3 : tie.Need-returns-3
+unfolding scoresLeft
+returns-3 c = (refused-answer _ _ _ _ _ _ _ (c .before .before .before .check-sizes .ensures) (c .before .sizes .given .1), refl)
+
+pub score-with-mean-spec : {M : Type 1} → statement M
+score-with-mean-spec =
+    tie.close
+    (tie.spec
+    check-sizes-requires
+    enum-told
+    new-requires
+    all-valid-requires
+    score-store-requires
+    enum-known-sizes
+    same-length
+    returns
+    returns-2
+    returns-3)

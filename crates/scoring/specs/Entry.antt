@@ -1,0 +1,62 @@
+-- The scoring entry: what it refuses, what it answers, and the scores that it leaves.
+use mathlib.Core.Bool.{Bool, true, cond, _&&_}
+use mathlib.Core.List.{List, [], _∷_}
+use Prim.Native.Nat.{ℕ, _/_}
+use lib.Dec.{eqb}
+use lib.Ieee.{Float}
+use lib.ListN.{length}
+use Rattle.rows.specs.Rows.{Row}
+use Rattle.rows.specs.Valid.{validRow}
+use Rattle.checks.specs.Refusals.{refusalNumber, isMemorySize, isAmountOfStates, isLogSize, areLengths}
+use Rattle.checks.specs.declared.refusal.Refusal.the-variants.{MemorySize, AmountOfStates, LogSize, LentLengths, InvalidRow}
+use Rattle.checks.specs.declared.refusal.Checked.{Checked}
+use Rattle.checks.specs.declared.refusal.Checked.the-variants as checked
+use Rattle.means.specs.declared.MeanType.{MeanType}
+use Rattle.store.specs.Store.{layout, rowsOf}
+use Rattle.rarity.specs.Scores.{scoresOf, areOrdered}
+use Rattle.scoring.specs.declared.ScoringAnswer.{ScoringAnswer}
+use Rattle.scoring.specs.declared.ScoringAnswer.the-variants as answer
+
+unfoldable pub allValid : List Row → Bool
+allValid [] = true
+allValid (r ∷ rows) = validRow r && allValid rows
+
+-- 1, 2, 4, 5 (one score a row) of so many words, marks and scores, then the tests that follow
+abbrev pub sizesThen : ℕ → ℕ → ℕ → ℕ → ℕ → ℕ → Checked → Checked
+sizesThen memory log rows words marks scores next =
+    cond (isMemorySize memory)
+    (cond (isAmountOfStates rows)
+    (cond (isLogSize log)
+    (cond (areLengths rows (memory / 8) log words marks && eqb scores rows) next (checked.Refused LentLengths))
+    (checked.Refused LogSize))
+    (checked.Refused AmountOfStates))
+    (checked.Refused MemorySize)
+
+-- and 9
+unfoldable pub scoringChecked : ℕ → ℕ → ℕ → List ℕ → List ℕ → List Float → Checked
+scoringChecked memory log rows words marks scores =
+    sizesThen memory log rows (length words) (length marks) (length scores)
+    (cond (allValid (rowsOf (layout rows (memory / 8) log) words marks)) checked.Accepted (checked.Refused InvalidRow))
+
+-- 31 where scores cannot be ordered
+abbrev pub orderedAnswer : Bool → ScoringAnswer
+orderedAnswer b = cond b answer.Scored answer.ScoresUnordered
+
+unfoldable pub scoringAnswer : Checked → List Float → ScoringAnswer
+scoringAnswer checked.Accepted scores = orderedAnswer (areOrdered scores)
+scoringAnswer (checked.Refused f) scores = answer.Refused f
+
+-- the lent scores afterwards: unchanged unless the rows are scored
+unfoldable pub scoresLeft : ScoringAnswer → List Float → List Float → List Float
+scoresLeft answer.Scored scores lent = scores
+scoresLeft answer.ScoresUnordered scores lent = lent
+scoresLeft (answer.Refused f) scores lent = lent
+
+-- all rows are counted, and all are scored
+abbrev pub storeScores : ℕ → ℕ → ℕ → MeanType → List ℕ → List ℕ → List Float
+storeScores memory log rows m words marks = scoresOf m (rowsOf (layout rows (memory / 8) log) words marks)
+
+abbrev pub scoringNumber : ScoringAnswer → ℕ
+scoringNumber answer.Scored = 0
+scoringNumber answer.ScoresUnordered = 31
+scoringNumber (answer.Refused f) = refusalNumber f
