@@ -23,7 +23,7 @@ fn wide(x: u8) -> u64
 }
 
 // Eight bytes from place i on, the lowest first.
-fn word_at(bytes: &[u8], i: usize) -> u64
+pub fn word_at(bytes: &[u8], i: usize) -> u64
     requires { ⌜ i + 8 ≤ length (now bytes) ⌝ }
     ensures { λ r. ⌜ r ≡ wordAt (now (bytes .entry)) i ⌝ }
 {

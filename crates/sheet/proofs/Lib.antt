@@ -1,0 +1,4 @@
+pub mod Tests
+pub mod Words
+pub mod Accepting
+pub mod Defaults

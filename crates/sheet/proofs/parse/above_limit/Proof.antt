@@ -1,0 +1,44 @@
+use borrow.Author.Tests.{lt-ltb, le-ltb}
+use Rattle.sheet.proofs.parse.above_limit.Statement.{statement}
+use Rattle.sheet.proofs.parse.above_limit.Tie as tie
+
+returns : tie.Need-returns
+returns c = rw (lt-ltb _ _ (c .if1 .taken))
+
+returns-2 : tie.Need-returns-2
+returns-2 c = rw (le-ltb _ _ (c .before .before .if1 .left), lt-ltb _ _ (c .if2 .taken))
+
+returns-3 : tie.Need-returns-3
+returns-3 c = rw (le-ltb _ _ (c .before .before .before .before .if1 .left), le-ltb _ _ (c .before .before .if2 .left), lt-ltb _ _ (c .if3 .taken))
+
+returns-4 : tie.Need-returns-4
+returns-4 c =
+    rw (
+      le-ltb _ _ (c .before .before .before .before .before .before .before .if1 .left),
+      le-ltb _ _ (c .before .before .before .before .before .if2 .left),
+      le-ltb _ _ (c .before .before .before .if3 .left),
+      lt-ltb _ _ (c .if4 .taken),
+    )
+
+returns-5 : tie.Need-returns-5
+returns-5 c =
+    rw (
+      le-ltb _ _ (c .before .before .before .before .before .before .before .before .before .before .if1 .left),
+      le-ltb _ _ (c .before .before .before .before .before .before .before .before .if2 .left),
+      le-ltb _ _ (c .before .before .before .before .before .before .if3 .left),
+      le-ltb _ _ (c .before .before .before .if4 .left),
+      lt-ltb _ _ (c .if5 .taken),
+    )
+
+returns-6 : tie.Need-returns-6
+returns-6 c =
+    rw (
+      le-ltb _ _ (c .before .before .before .before .before .before .before .before .before .before .before .before .if1 .left),
+      le-ltb _ _ (c .before .before .before .before .before .before .before .before .before .before .if2 .left),
+      le-ltb _ _ (c .before .before .before .before .before .before .before .before .if3 .left),
+      le-ltb _ _ (c .before .before .before .before .before .if4 .left),
+      le-ltb _ _ (c .before .before .if5 .left),
+    )
+
+pub above-limit-spec : {M : Type 1} → statement M
+above-limit-spec = tie.close (tie.spec returns returns-2 returns-3 returns-4 returns-5 returns-6)
