@@ -6,29 +6,15 @@ use crate::layout::RUN_COLUMNS;
 use crate::layout::is_whole;
 use crate::layout::layout_of;
 use crate::running::replay_run;
+use lists::digest::JUNK;
+use lists::digest::JUNK_MARK;
+use lists::tally::Judged;
+use lists::tally::disagrees;
 
 // What there is to lend: rows of 2,048 bytes of memory and eight log words fit.
 const WORDS: usize = 304;
 
 const MARKS: usize = 288;
-
-// What stands there before creation: no executor leaves it so.
-const JUNK: u64 = 0x6e75_7473;
-
-const JUNK_MARK: u8 = 7;
-
-pub struct Judged {
-    pub agrees: bool,
-    // runs that were made
-    pub runs: u64,
-}
-
-pub fn disagrees(runs: u64) -> Judged {
-    Judged {
-        agrees: false,
-        runs,
-    }
-}
 
 // The runs of a line one after the other, each on what the last one left of the row and of the tape. The first that disagrees
 // is the last.
@@ -55,7 +41,7 @@ fn replay_runs(numbers: &[u64], layout: Layout, words: &mut [u64], marks: &mut [
     }
     Judged {
         agrees: true,
-        runs: run as u64,
+        parts: run as u64,
     }
 }
 

@@ -1,20 +1,19 @@
 // A new executor, made as a line says.
-ghost use Prim.Native.Nat.{_≤_, _<_};
-ghost use mathlib.Core.Path.{_≡_};
+ghost use Prim.Native.Nat.{_≤_};
 ghost use lib.ListN.{length};
-use crate::digest::digest_of;
 use crate::layout::CODE;
 use crate::layout::CODE_ADDRESS;
 use crate::layout::DATA_ADDRESS;
 use crate::layout::DIGEST;
 use crate::layout::Layout;
-use crate::layout::MOST_BYTES;
 use crate::layout::NUMBER;
 use crate::layout::SIZES;
-use crate::layout::number_at;
 use crate::sizes::Sizes;
 use crate::sizes::sizes_at;
 use checks::refusal::Checked;
+use lists::columns::bytes_at;
+use lists::columns::number_at;
+use lists::digest::digest_of;
 
 const ACCEPTED: u64 = 0;
 
@@ -23,27 +22,6 @@ fn number_of(checked: Checked) -> u64 {
         Checked::Accepted => ACCEPTED,
         Checked::Refused(refusal) => refusal.number(),
     }
-}
-
-// A byte of a word, counted from the lowest.
-fn byte_of(word: u64, place: u64) -> u8
-    requires { ⌜ place < 8 ⌝ }
-{
-    ((word >> (8 * place)) % 256) as u8
-}
-
-// The bytes of the words in the columns from this one on.
-fn bytes_at(numbers: &[u64], at: usize) -> [u8; MOST_BYTES]
-    requires { ⌜ at ≤ 1000 ⌝ }
-    ensures { λ r. ⌜ 512 ≡ length r ⌝ }
-{
-    let mut bytes = [0; MOST_BYTES];
-    let mut i = 0;
-    while i < MOST_BYTES {
-        bytes[i] = byte_of(number_at(numbers, at + i / 8), (i % 8) as u64);
-        i += 1;
-    }
-    bytes
 }
 
 fn create(

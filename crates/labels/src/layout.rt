@@ -1,5 +1,9 @@
 // Where the parts of a line stand: twelve numbers, then the words of code, data and tape, then the runs.
 ghost use Prim.Native.Nat.{_≤_};
+use lists::columns::MOST_BYTES;
+use lists::columns::is_length;
+use lists::columns::length_at;
+use lists::columns::words_of;
 
 // The columns of a line's start; the sizes are the first.
 pub const SIZES: usize = 0;
@@ -28,11 +32,7 @@ pub const RUN_COLUMNS: usize = 13;
 // The most that a line has.
 pub const MOST_NUMBERS: usize = 192;
 
-pub const MOST_BYTES: usize = 512;
-
 const MOST_RUNS: usize = 3;
-
-const WORD_BYTES: usize = 8;
 
 pub struct Layout {
     // in bytes
@@ -43,30 +43,6 @@ pub struct Layout {
     pub tape: usize,
     pub runs: usize,
     pub run_count: usize,
-}
-
-// The number in a column; 0 past the end.
-pub fn number_at(numbers: &[u64], at: usize) -> u64 {
-    if at < numbers.len() { numbers[at] } else { 0 }
-}
-
-// The length in a column. One above the most is cut down to it, and then the line is not whole.
-pub fn length_at(numbers: &[u64], at: usize, most: usize) -> usize
-    ensures { λ r. ⌜ r ≤ most ⌝ }
-{
-    let length = number_at(numbers, at);
-    if length <= most as u64 {
-        length as usize
-    } else {
-        most
-    }
-}
-
-fn words_of(bytes: usize) -> usize
-    requires { ⌜ bytes ≤ 512 ⌝ }
-    ensures { λ r. ⌜ r ≤ 64 ⌝ }
-{
-    (bytes + WORD_BYTES - 1) / WORD_BYTES
 }
 
 pub fn layout_of(numbers: &[u64]) -> Layout
@@ -90,8 +66,8 @@ pub fn layout_of(numbers: &[u64]) -> Layout
 pub fn is_whole(numbers: &[u64], layout: Layout) -> bool
     requires { ⌜ (layout .«run_count» ≤ 3) × (layout .runs ≤ 1000) ⌝ }
 {
-    number_at(numbers, CODE_LENGTH) == layout.code_length as u64
-        && number_at(numbers, DATA_LENGTH) == layout.data_length as u64
-        && number_at(numbers, RUNS) == layout.run_count as u64
+    is_length(numbers, CODE_LENGTH, layout.code_length)
+        && is_length(numbers, DATA_LENGTH, layout.data_length)
+        && is_length(numbers, RUNS, layout.run_count)
         && numbers.len() == layout.runs + layout.run_count * RUN_COLUMNS
 }

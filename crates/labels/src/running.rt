@@ -1,10 +1,10 @@
 // A run of a row, changed before it as a line says.
 ghost use Prim.Native.Nat.{_≤_};
 ghost use lib.ListN.{length};
-use crate::digest::digest_of;
-use crate::layout::number_at;
 use crate::sizes::Sizes;
 use crate::sizes::sizes_at;
+use lists::columns::number_at;
+use lists::digest::digest_of;
 
 // Columns, counted from the first of a run, where the sizes stand.
 const CHANGE: usize = 4;

@@ -1,8 +1,9 @@
 // What an entry is told of its row, and how much is lent.
 ghost use Prim.Native.Nat.{_≤_};
 ghost use lib.ListN.{length};
-use crate::layout::length_at;
-use crate::layout::number_at;
+use lists::columns::is_length;
+use lists::columns::length_at;
+use lists::columns::number_at;
 
 // Columns, counted from the first of the sizes.
 const LOG: usize = 1;
@@ -31,7 +32,7 @@ pub fn sizes_at(numbers: &[u64], at: usize, words: &[u64], marks: &[u8]) -> Size
         log: number_at(numbers, at + LOG),
         words: lent_words,
         marks: lent_marks,
-        fit: number_at(numbers, at + LENT_WORDS) == lent_words as u64
-            && number_at(numbers, at + LENT_MARKS) == lent_marks as u64,
+        fit: is_length(numbers, at + LENT_WORDS, lent_words)
+            && is_length(numbers, at + LENT_MARKS, lent_marks),
     }
 }

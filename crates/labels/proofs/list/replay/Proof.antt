@@ -1,48 +1,50 @@
 use Prim.Native.Nat.{_-_}
-use mathlib.Core.Path.{_≡_}
+use mathlib.Core.Path.{_≡_, sym}
 use lib.ListN.{length}
+use lib.Seq.{length-take-le}
+use native.Mathlib.Omega.{arith}
 use borrow.Author.Needs.{needs}
 use Rattle.labels.proofs.list.replay.Statement.{statement}
 use Rattle.labels.proofs.list.replay.Tie as tie
 
 abbrev Inv-loop : tie.InvT-loop
-Inv-loop fd numbers₀ place₀ at₀ numbers place at = 192 ≡ length numbers
+Inv-loop fd numbers₀ tally₀ at₀ numbers tally at = 192 ≡ length numbers
 
 abbrev μ-loop : tie.MeasureT-loop
-μ-loop fd numbers₀ place₀ at₀ numbers place at = 0x100000000 - at
+μ-loop fd numbers₀ tally₀ at₀ numbers tally at = 0x100000000 - at
 
 new-requires : tie.Need-new-requires Inv-loop μ-loop
 new-requires c κs = search needs
 
-new-requires-2 : tie.Need-new-requires-2 Inv-loop μ-loop
-new-requires-2 c κs = search needs
-
 loop-holds : tie.Need-loop-holds Inv-loop μ-loop
 loop-holds c = search needs
 
-slice-aggregate-replay-part : tie.Need-slice-aggregate-replay-part Inv-loop μ-loop
-slice-aggregate-replay-part c = search needs
+slice-aggregate-read-line : tie.Need-slice-aggregate-read-line Inv-loop μ-loop
+slice-aggregate-read-line c = search needs
 
-replay-part-requires : tie.Need-replay-part-requires Inv-loop μ-loop
-replay-part-requires c κs = search needs
-
-finished-requires : tie.Need-finished-requires Inv-loop μ-loop
-finished-requires c κs = search needs
+read-line-requires : tie.Need-read-line-requires Inv-loop μ-loop
+read-line-requires c κs = search needs
 
 returns : tie.Need-returns Inv-loop μ-loop
 returns c = search needs
 
-add-at : tie.Need-add-at Inv-loop μ-loop
-add-at c = search needs
+array-share-prefix-numbers : tie.Need-array-share-prefix-numbers Inv-loop μ-loop
+array-share-prefix-numbers c = search needs
+
+slice-aggregate-judge : tie.Need-slice-aggregate-judge Inv-loop μ-loop
+slice-aggregate-judge c = sym (length-take-le _ _ (omega (arith, c .before .before .before .before .read-line .ensures, c .before .before .before .before .read-line .kept, c .before .before .before .before .before .before .before .loop .inv)))
+
+judge-requires : tie.Need-judge-requires Inv-loop μ-loop
+judge-requires c κs = search needs
+
+counted-requires : tie.Need-counted-requires Inv-loop μ-loop
+counted-requires c κs = search needs
 
 loop-less : tie.Need-loop-less Inv-loop μ-loop
 loop-less c = search needs
 
 loop-again : tie.Need-loop-again Inv-loop μ-loop
 loop-again c = search needs
-
-finished-requires-2 : tie.Need-finished-requires-2 Inv-loop μ-loop
-finished-requires-2 c κs = search needs
 
 returns-2 : tie.Need-returns-2 Inv-loop μ-loop
 returns-2 c = search needs
@@ -54,14 +56,14 @@ replay-spec =
     Inv-loop
     μ-loop
     new-requires
-    new-requires-2
     loop-holds
-    slice-aggregate-replay-part
-    replay-part-requires
-    finished-requires
+    slice-aggregate-read-line
+    read-line-requires
     returns
-    add-at
+    array-share-prefix-numbers
+    slice-aggregate-judge
+    judge-requires
+    counted-requires
     loop-less
     loop-again
-    finished-requires-2
     returns-2)
