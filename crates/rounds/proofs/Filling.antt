@@ -10,7 +10,7 @@ use lib.Dec.{T, eqb}
 use lib.ListN.{length, take, drop, length-append, length-map, length-take, length-drop, length-replicate}
 use Rattle.checks.specs.Refusals.{isCopyRatio}
 use Rattle.loader.proofs.Kept.{new-words, new-marks, new-zero-mark}
-use Rattle.rows.specs.Rows.{row}
+use Rattle.rows.specs.Rows.{Row, row}
 use Rattle.store.specs.Store.{Sized}
 use Rattle.rounds.specs.Calls.{Call}
 use Rattle.rounds.specs.Copies.{toCopy}
@@ -47,23 +47,23 @@ module _ (c : Call) (s : Start) (sized : Sized (c .layout)) where
         zero-mark = new-zero-mark (c .image) (c .layout .words) (c .layout .marks) (sized .registers) (sized .slots);
       }
 
-  module _ (kept : All (Proper (c .layout)) (s .kept)) where
-    parents : (words : List ℕ) → 0 < length (s .kept) → All (Proper (c .layout)) (map (parent (s .kept)) words)
-    parents [] some = nil
-    parents (x ∷ words) some = cons (all-at (s .kept) (x % length (s .kept)) (row [] []) (mod-lt x some) kept) (parents words some)
+-- what holds of the kept rows and of a new one holds of all rows filled
+module _ {P : Row → Type 0} (c : Call) (s : Start) (kept : All P (s .kept)) where
+  parents : (words : List ℕ) → 0 < length (s .kept) → All P (map (parent (s .kept)) words)
+  parents [] some = nil
+  parents (x ∷ words) some = cons (all-at (s .kept) (x % length (s .kept)) (row [] []) (mod-lt x some) kept) (parents words some)
 
-    -- where none is kept none is copied
-    copied : All (Proper (c .layout)) (map (parent (s .kept)) (take (copies c s) (drop (s .used) (c .tape))))
-    copied = by (eqb (length (s .kept)) 0) refl (toCopy (missing c s) (c .options .«copy_init_ratio»))
-      where
-        some : (n : ℕ) → (n ≡ 0 → ⊥) → 0 < n
-        some n h = omega arith
+  -- where none is kept none is copied
+  copied : All P (map (parent (s .kept)) (take (copies c s) (drop (s .used) (c .tape))))
+  copied = by (eqb (length (s .kept)) 0) refl (toCopy (missing c s) (c .options .«copy_init_ratio»))
+    where
+      some : (n : ℕ) → (n ≡ 0 → ⊥) → 0 < n
+      some n h = omega arith
 
-        by : (b : Bool) → eqb (length (s .kept)) 0 ≡ b
-            → (n : ℕ) → All (Proper (c .layout)) (map (parent (s .kept)) (take (cond b 0 n) (drop (s .used) (c .tape))))
-        by true e n = nil
-        by false e n = parents (take n (drop (s .used) (c .tape))) (some (length (s .kept)) (eqb-false (length (s .kept)) 0 e))
+      by : (b : Bool) → eqb (length (s .kept)) 0 ≡ b → (n : ℕ) → All P (map (parent (s .kept)) (take (cond b 0 n) (drop (s .used) (c .tape))))
+      by true e n = nil
+      by false e n = parents (take n (drop (s .used) (c .tape))) (some (length (s .kept)) (eqb-false (length (s .kept)) 0 e))
 
-    pub filled-proper : All (Proper (c .layout)) (filled c s)
-    unfolding filled
-    filled-proper = all-append kept (all-append copied (all-replicate (missing c s - copies c s) (newRow c) new-proper))
+  pub filled-all : P (newRow c) → All P (filled c s)
+  unfolding filled
+  filled-all new = all-append kept (all-append copied (all-replicate (missing c s - copies c s) (newRow c) new))

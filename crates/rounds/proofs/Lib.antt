@@ -6,6 +6,7 @@ pub mod Proper
 pub mod Filling
 pub mod Running
 pub mod Keeping
+pub mod Handing
 pub mod Every
 pub mod Fronts
 pub mod Demand

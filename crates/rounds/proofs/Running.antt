@@ -1,4 +1,4 @@
--- Running all rows: as many runs as rows, and each leaves a proper row proper; those still running are some of them.
+-- Running all rows: as many runs as rows, what each makes of its row, and a proper row stays proper; those still running are some of them.
 use mathlib.Core.Bool.{Bool, true, false}
 use mathlib.Core.List.{List, [], _∷_, map}
 use mathlib.Core.Path.{_≡_, refl, ap, _∙_}
@@ -23,7 +23,7 @@ unfolding runAll
 run-all-length step tape used [] = refl
 run-all-length step tape used (r ∷ rows) = ap suc (run-all-length step tape (runOf step tape used r .ran .used) rows)
 
-run-proper : (s : Layout) (step : ℕ) (tape : List ℕ) (used : ℕ) (r : Row) → Proper s r → Proper s (runOf step tape used r .row)
+pub run-proper : (s : Layout) (step : ℕ) (tape : List ℕ) (used : ℕ) (r : Row) → Proper s r → Proper s (runOf step tape used r .row)
 run-proper s step tape used r h =
     record {
       words = run-words step tape used r ∙ h .words;
@@ -31,12 +31,12 @@ run-proper s step tape used r h =
       zero-mark = run-zero-mark step tape used r ∙ h .zero-mark;
     }
 
-pub run-all-proper : (s : Layout) (step : ℕ) (tape : List ℕ) (used : ℕ) {rows : List Row} → All (Proper s) rows
-    → All (Proper s) (map rowAfter (runAll step tape used rows))
+-- what a run makes of one row, runs make of all
+pub run-all-each : {P Q : Row → Type 0} (step : ℕ) (tape : List ℕ) → ((used : ℕ) (r : Row) → P r → Q (runOf step tape used r .row))
+    → (used : ℕ) {rows : List Row} → All P rows → All Q (map rowAfter (runAll step tape used rows))
 unfolding runAll
-run-all-proper s step tape used nil = nil
-run-all-proper s step tape used (cons {x = r} h hs) =
-    cons (run-proper s step tape used r h) (run-all-proper s step tape (runOf step tape used r .ran .used) hs)
+run-all-each step tape each used nil = nil
+run-all-each step tape each used (cons {x = r} h hs) = cons (each used r h) (run-all-each step tape each (runOf step tape used r .ran .used) hs)
 
 -- ---- the rows that take part
 pub flagged-running : (p : Progress) → isRunning p ≡ true → p ≡ Running

@@ -1,0 +1,4 @@
+pub mod Accepted
+pub mod Limits
+pub mod Turning
+pub mod Leaving

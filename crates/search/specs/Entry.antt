@@ -1,0 +1,83 @@
+-- The search entry: what it refuses, what it answers, and the store that it leaves.
+use mathlib.Core.Bool.{cond}
+use mathlib.Core.List.{List}
+use mathlib.Core.Path.{_≡_}
+use Prim.Native.Nat.{ℕ, _/_}
+use lib.ListN.{length}
+use Rattle.checks.specs.Refusals.{refusalNumber, isMemorySize, isAmountOfStates, isCopyRatio, isLogSize, areLengths}
+use Rattle.checks.specs.Segments.{segmentsChecked}
+use Rattle.checks.specs.declared.refusal.Refusal.the-variants.{MemorySize, AmountOfStates, CopyRatio, LogSize, LentLengths}
+use Rattle.checks.specs.declared.refusal.Checked.{Checked}
+use Rattle.checks.specs.declared.refusal.Checked.the-variants as checked
+use Rattle.loader.specs.Loading.{Program}
+use Rattle.rows.specs.Rows.{Row}
+use Rattle.store.specs.Store.{wordsOf, marksOf}
+use Rattle.rounds.specs.Calls.{layoutOf, call}
+use Rattle.rounds.specs.Findings.{findingNumber, findingRow, findingPc, findingValue}
+use Rattle.rounds.specs.Rounds.{Searched, beginning, searchFrom}
+use Rattle.rounds.specs.declared.options.RaritySimulationOptions.{RaritySimulationOptions}
+use Rattle.search.specs.declared.answer.SearchAnswer.{SearchAnswer}
+use Rattle.search.specs.declared.answer.SearchAnswer.the-variants as answer
+
+-- 1 to 5, then the tests that follow
+abbrev pub optionsThen : RaritySimulationOptions → ℕ → ℕ → ℕ → Checked → Checked
+optionsThen o log words marks next =
+    cond (isMemorySize (o .«memory_size»))
+    (cond (isAmountOfStates (o .«amount_of_states»))
+    (cond (isCopyRatio (o .«copy_init_ratio»))
+    (cond (isLogSize log)
+    (cond (areLengths (o .«amount_of_states») (o .«memory_size» / 8) log words marks) next (checked.Refused LentLengths))
+    (checked.Refused LogSize))
+    (checked.Refused CopyRatio))
+    (checked.Refused AmountOfStates))
+    (checked.Refused MemorySize)
+
+-- 6 and 7 last
+unfoldable pub searchChecked : RaritySimulationOptions → ℕ → Program → List ℕ → List ℕ → Checked
+searchChecked o log p words marks = optionsThen o log (length words) (length marks) (segmentsChecked (o .«memory_size» / 8) p)
+
+-- the store and the answer after a call
+pub record Left : Type 0 where
+  pub words : List ℕ
+  pub marks : List ℕ
+  pub answer : SearchAnswer
+
+abbrev pub left : List ℕ → List ℕ → SearchAnswer → Left
+left words marks a = record { words = words; marks = marks; answer = a }
+
+-- a search leaves its rows
+abbrev pub leftBy : Searched → Left
+leftBy x = left (wordsOf (x .rows)) (marksOf (x .rows)) (answer.Searched (x .finding) (x .used))
+
+-- an answer in a store of these rows says what a search comes to
+abbrev pub searchedAs : SearchAnswer → List Row → Searched → Type 0
+searchedAs a rows x = (a ≡ answer.Searched (x .finding) (x .used)) × (rows ≡ x .rows)
+
+-- a refused call leaves everything as found; an accepted one zeroes all rows and runs the rounds
+unfoldable pub searchLeft : Checked → RaritySimulationOptions → ℕ → Program → List ℕ → List ℕ → List ℕ → Left
+searchLeft checked.Accepted o log p tape words marks = leftBy (searchFrom (o .iterations) (call o (layoutOf o log) p tape) beginning)
+searchLeft (checked.Refused f) o log p tape words marks = left words marks (answer.Refused f)
+
+abbrev pub searchEntry : RaritySimulationOptions → ℕ → Program → List ℕ → List ℕ → List ℕ → Left
+searchEntry o log p tape words marks = searchLeft (searchChecked o log p words marks) o log p tape words marks
+
+-- document 01's number, row, pc, value and used count of an answer; what has no use is 0
+abbrev pub answerNumber : SearchAnswer → ℕ
+answerNumber (answer.Refused f) = refusalNumber f
+answerNumber (answer.Searched finding used) = findingNumber finding
+
+abbrev pub answerRow : SearchAnswer → ℕ
+answerRow (answer.Refused f) = 0
+answerRow (answer.Searched finding used) = findingRow finding
+
+abbrev pub answerPc : SearchAnswer → ℕ
+answerPc (answer.Refused f) = 0
+answerPc (answer.Searched finding used) = findingPc finding
+
+abbrev pub answerValue : SearchAnswer → ℕ
+answerValue (answer.Refused f) = 0
+answerValue (answer.Searched finding used) = findingValue finding
+
+abbrev pub answerUsed : SearchAnswer → ℕ
+answerUsed (answer.Refused f) = 0
+answerUsed (answer.Searched finding used) = used
