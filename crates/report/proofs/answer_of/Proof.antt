@@ -1,0 +1,33 @@
+use borrow.Author.Needs.{needs}
+use Rattle.report.proofs.answer_of.Statement.{statement}
+use Rattle.report.proofs.answer_of.Tie as tie
+
+number-requires : tie.Need-number-requires
+number-requires c κs = search needs
+
+row-requires : tie.Need-row-requires
+row-requires c κs = search needs
+
+pc-requires : tie.Need-pc-requires
+pc-requires c κs = search needs
+
+value-requires : tie.Need-value-requires
+value-requires c κs = search needs
+
+used-requires : tie.Need-used-requires
+used-requires c κs = search needs
+
+returns : tie.Need-returns
+returns c =
+    rw (
+      ← c .before .before .before .before .number .ensures,
+      ← c .before .before .before .row .ensures,
+      ← c .before .before .pc .ensures,
+      ← c .before .value .ensures,
+      ← c .used .ensures,
+    )
+
+pub answer-of-spec : {M : Type 1} → statement M
+answer-of-spec =
+    tie.close
+    (tie.spec number-requires row-requires pc-requires value-requires used-requires returns)

@@ -1,0 +1,101 @@
+// The bench program's work: from the bytes of a sheet to the printed bytes. Nothing is asked of the caller.
+ghost use mathlib.Core.Path.{_≡_};
+ghost use mathlib.Core.List.{List, []};
+ghost use Prim.Native.Nat.{ℕ, _*_, _≤_};
+ghost use lib.ListN.{length};
+ghost use Rattle.lines.specs.Lines.{lines, written};
+ghost use Rattle.sheet.specs.Sheets.{parsed, benchLimits, sheetNumber};
+ghost use Rattle.sheet.specs.declared.parse.Parsed.the-variants.{Accepted};
+ghost use Rattle.store.specs.Store.{rowsOf};
+ghost use Rattle.report.specs.Reports.{printed, refusedAnswer, searchAnswer, searchPrinted};
+ghost use Rattle.report.specs.Printing.{Printed, Lent, answerLines};
+
+mod inputs;
+mod searching;
+
+use inputs::told_inputs;
+use lines::Answer;
+use lines::write_lines;
+use search::answer::SearchAnswer;
+use searching::search_sheet;
+use sheet::limits::Limits;
+use sheet::parse::Parsed;
+use sheet::parse::Sheet;
+use sheet::parse::SheetError;
+use sheet::parse::parse;
+use store::layout::Layout;
+
+// The most bytes that are printed: an answer, 64 inputs and the used count have 1,858.
+pub const MOST_PRINTED: usize = 2048;
+
+// The most words and marks of a store: eight rows of 1,024 bytes of memory and 64 log words.
+const MOST_WORDS: usize = 1832;
+
+const MOST_MARKS: usize = 1280;
+
+fn report_refusal(error: SheetError, out: &mut [u8; 2048]) -> usize
+    ensures { λ r. ⌜ Printed (lines (refusedAnswer (sheetNumber error)) []) (now (out .entry)) (now (out .exit)) r ⌝ }
+{
+    let answer = Answer {
+        number: error.number(),
+        row: 0,
+        pc: 0,
+        value: 0,
+        used: 0,
+    };
+    let none = [0u64; 0];
+    write_lines(answer, &none, out)
+}
+
+fn answer_of(answer: SearchAnswer) -> Answer
+    ensures { λ r. ⌜ r ≡ searchAnswer answer ⌝ }
+{
+    Answer {
+        number: answer.number(),
+        row: answer.row() as u64,
+        pc: answer.pc(),
+        value: answer.value(),
+        used: answer.used() as u64,
+    }
+}
+
+// Prints an answer, and the inputs that it tells from the words of its store.
+fn report_answer(answer: SearchAnswer, store: Layout, words: &[u64], out: &mut [u8; 2048]) -> usize
+    requires { ⌜ Lent store (now words) ⌝ }
+    ensures { λ r. ⌜ ((marks : List ℕ) → length marks ≡ store .rows * store .marks → Printed (answerLines answer (rowsOf store (now (words .entry)) marks)) (now (out .entry)) (now (out .exit)) r) ⌝ }
+{
+    let told = told_inputs(answer, store, words);
+    let from = told.from;
+    let to = told.to;
+    write_lines(answer_of(answer), &words[from..to], out)
+}
+
+// The search, on a store of just the lengths that the sheet asks for.
+fn report_search(sheet: &[u8], asked: Sheet, out: &mut [u8; 2048]) -> usize
+    requires { ⌜ parsed benchLimits (now sheet) ≡ Accepted asked ⌝ }
+    ensures { λ r. ⌜ Printed (searchPrinted (now (sheet .entry)) asked) (now (out .entry)) (now (out .exit)) r ⌝ }
+{
+    let options = asked.options;
+    let store = Layout::new(
+        options.amount_of_states as usize,
+        options.memory_size / 8,
+        asked.log,
+    );
+    let n = store.rows * store.words;
+    let m = store.rows * store.marks;
+    let mut words = [0; MOST_WORDS];
+    let mut marks = [0; MOST_MARKS];
+    let answer = search_sheet(sheet, asked, &mut words[0..n], &mut marks[0..m]);
+    report_answer(answer, store, &words[0..n], out)
+}
+
+// Runs the search that a sheet asks for, writes what is to be printed to the front of `out`, and answers how many bytes that is.
+pub fn report(sheet: &[u8], out: &mut [u8; 2048]) -> usize
+    ensures { λ r. ⌜ r ≡ length (printed (now (sheet .entry))) ⌝ ∗ ⌜ now (out .exit) ≡ written (printed (now (sheet .entry))) (now (out .entry)) ⌝ ∗ ⌜ r ≤ 2048 ⌝ }
+{
+    let parsed = parse(sheet, Limits::bench());
+    match parsed {
+        Parsed::Refused(error) => report_refusal(error, out),
+        Parsed::Accepted(asked) => report_search(sheet, asked, out),
+    }
+}
