@@ -39,7 +39,7 @@ pub fn words_of(bytes: usize) -> usize
 }
 
 // A byte of a word, counted from the lowest.
-fn byte_of(word: u64, place: u64) -> u8
+pub fn byte_of(word: u64, place: u64) -> u8
     requires { ⌜ place < 8 ⌝ }
 {
     ((word >> (8 * place)) % 256) as u8

@@ -1,0 +1,37 @@
+// One case: a sheet, and what is printed for it.
+ghost use Prim.Native.Nat.{_≤_, _<_};
+use crate::layout::Layout;
+use crate::layout::MOST_PRINTED;
+use crate::layout::is_whole;
+use crate::layout::layout_of;
+use crate::printed::is_printed;
+use crate::stored::sheet_of;
+use lists::digest::JUNK_MARK;
+use lists::tally::Judged;
+use lists::tally::disagrees;
+
+// Whether just the line's bytes are printed for its sheet.
+fn replay_sheet(numbers: &[u64], layout: Layout) -> bool
+    requires { ⌜ (0 < layout .stored) × (layout .stored ≤ 512) × (layout .length ≤ 61441) ⌝ }
+{
+    let sheet = sheet_of(numbers, layout.stored, layout.length);
+    let mut out = [JUNK_MARK; MOST_PRINTED];
+    let length = layout.length;
+    let count = report::report(&sheet[..length], &mut out);
+    count == layout.printed && is_printed(numbers, layout, &out)
+}
+
+pub fn judge(numbers: &[u64]) -> Judged {
+    let layout = layout_of(numbers);
+    if layout.stored == 0 {
+        return disagrees(0);
+    }
+    if is_whole(numbers, layout) {
+        Judged {
+            agrees: replay_sheet(numbers, layout),
+            parts: layout.printed as u64,
+        }
+    } else {
+        disagrees(0)
+    }
+}

@@ -1,0 +1,33 @@
+use borrow.Author.Tests.{le-leb, lt-leb}
+use borrow.Author.Needs.{needs}
+use Rattle.tavvinur.proofs.tavvinur_score.Statement.{statement}
+use Rattle.tavvinur.proofs.tavvinur_score.Tie as tie
+
+returns : tie.Need-returns
+returns c = rw (lt-leb _ _ (c .if1 .taken))
+
+mean-of-requires : tie.Need-mean-of-requires
+mean-of-requires c κs = search needs
+
+score-with-mean-requires : tie.Need-score-with-mean-requires
+score-with-mean-requires c κs = search needs
+
+number-requires : tie.Need-number-requires
+number-requires c κs = search needs
+
+same-length : tie.Need-same-length
+same-length c = search needs
+
+returns-2 : tie.Need-returns-2
+returns-2 c = rw (le-leb _ _ (c .before .before .before .before .before .before .if1 .left), c .number .ensures, ← c .before .before .before .before .before .mean-of .ensures, ← c .before .before .before .score-with-mean .ensures .0, c .before .before .before .score-with-mean .ensures .1)
+
+pub tavvinur-score-spec : {M : Type 1} → statement M
+tavvinur-score-spec =
+    tie.close
+    (tie.spec
+    returns
+    mean-of-requires
+    score-with-mean-requires
+    number-requires
+    same-length
+    returns-2)

@@ -1,0 +1,41 @@
+use borrow.Author.Tests.{le-leb, lt-leb}
+use borrow.Author.Needs.{needs}
+use Rattle.tavvinur.proofs.tavvinur_search.Statement.{statement}
+use Rattle.tavvinur.proofs.tavvinur_search.Tie as tie
+
+refused-requires : tie.Need-refused-requires
+refused-requires c κs = search needs
+
+returns : tie.Need-returns
+returns c = rw (lt-leb (c .before .before .before .before .before .before .before .before .args .options .mean) 1 (c .before .if1 .taken), c .refused .ensures)
+
+options-of-requires : tie.Need-options-of-requires
+options-of-requires c κs = search needs
+
+search-for-bugs-requires : tie.Need-search-for-bugs-requires
+search-for-bugs-requires c κs = search needs
+
+of-search-requires : tie.Need-of-search-requires
+of-search-requires c κs = search needs
+
+same-length : tie.Need-same-length
+same-length c = search needs
+
+same-length-2 : tie.Need-same-length-2
+same-length-2 c = search needs
+
+returns-2 : tie.Need-returns-2
+returns-2 c = rw (le-leb _ _ (c .before .before .before .before .before .before .before .before .before .if1 .left), c .of-search .ensures, ← c .before .before .before .before .before .before .options-of .ensures, ← c .before .before .before .before .before .search-for-bugs .ensures .0)
+
+pub tavvinur-search-spec : {M : Type 1} → statement M
+tavvinur-search-spec =
+    tie.close
+    (tie.spec
+    refused-requires
+    returns
+    options-of-requires
+    search-for-bugs-requires
+    of-search-requires
+    same-length
+    same-length-2
+    returns-2)

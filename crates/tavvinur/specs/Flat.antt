@@ -1,0 +1,113 @@
+-- What crosses to C and Rust: numbers and flat structs, each equal to what the entries' definitions say.
+use mathlib.Core.Bool.{cond}
+use mathlib.Core.List.{List}
+use Prim.Native.Nat.{ℕ}
+use lib.Dec.{eqb, leb}
+use lib.Ieee.{Float}
+use Rattle.checks.specs.Refusals.{refusalNumber}
+use Rattle.checks.specs.declared.refusal.Checked.{Checked}
+use Rattle.checks.specs.declared.refusal.Checked.the-variants as checked
+use Rattle.executor.specs.Entries as run
+use Rattle.executor.specs.declared.RunAnswer.{RunAnswer}
+use Rattle.means.specs.declared.MeanType.{MeanType}
+use Rattle.means.specs.declared.MeanType.the-variants.{Arithmetic, Harmonic}
+use Rattle.rows.specs.Rows.{row}
+use Rattle.loader.specs.Loading.{Program}
+use Rattle.rounds.specs.declared.options.RaritySimulationOptions.{RaritySimulationOptions}
+use Rattle.scoring.specs.Entry as scoring
+use Rattle.scoring.specs.declared.ScoringAnswer.{ScoringAnswer}
+use Rattle.search.specs.Entry as search
+use Rattle.search.specs.declared.answer.SearchAnswer.{SearchAnswer}
+use Rattle.tavvinur.specs.declared.Answer.{Answer}
+use Rattle.tavvinur.specs.declared.Options.{Options}
+
+-- 0 arithmetic, 1 harmonic; 53 refuses what is above
+abbrev pub meanOf : ℕ → MeanType
+meanOf m = cond (eqb m 0) Arithmetic Harmonic
+
+abbrev pub unknownMean : ℕ
+unknownMean = 53
+
+abbrev pub optionsOf : Options → RaritySimulationOptions
+optionsOf o =
+    record {
+      «memory_size» = o .«memory_size»;
+      «amount_of_states» = o .«amount_of_states»;
+      «step_size» = o .«step_size»;
+      selection = o .selection;
+      iterations = o .iterations;
+      «copy_init_ratio» = o .«copy_init_ratio»;
+      mean = meanOf (o .mean);
+    }
+
+-- a refusal's number, 0 for an accepted call
+abbrev pub checkedNumber : Checked → ℕ
+checkedNumber checked.Accepted = 0
+checkedNumber (checked.Refused f) = refusalNumber f
+
+abbrev pub refused : ℕ → Answer
+refused number = record { number = number; row = 0; pc = 0; value = 0; used = 0 }
+
+-- a single executor's row is row 0
+abbrev pub ofRun : RunAnswer → Answer
+ofRun a = record { number = run.answerNumber a; row = 0; pc = run.answerPc a; value = run.answerValue a; used = run.answerUsed a }
+
+abbrev pub ofSearch : SearchAnswer → Answer
+ofSearch a = record { number = search.answerNumber a; row = search.answerRow a; pc = search.answerPc a; value = search.answerValue a; used = search.answerUsed a }
+
+-- the options as they cross
+abbrev pub meanNumber : MeanType → ℕ
+meanNumber Arithmetic = 0
+meanNumber Harmonic = 1
+
+abbrev pub flatOf : RaritySimulationOptions → Options
+flatOf o =
+    record {
+      «memory_size» = o .«memory_size»;
+      «amount_of_states» = o .«amount_of_states»;
+      «step_size» = o .«step_size»;
+      selection = o .selection;
+      iterations = o .iterations;
+      mean = meanNumber (o .mean);
+      «copy_init_ratio» = o .«copy_init_ratio»;
+    }
+
+-- the lent words and marks after a call, with its answer
+pub record Left : Type 0 where
+  pub words : List ℕ
+  pub marks : List ℕ
+  pub answer : Answer
+
+abbrev pub left : List ℕ → List ℕ → Answer → Left
+left words marks a = record { words = words; marks = marks; answer = a }
+
+abbrev pub leftByRun : run.Answered → Left
+leftByRun x = left (x .row .words) (x .row .marks) (ofRun (x .answer))
+
+abbrev pub leftBySearch : search.Left → Left
+leftBySearch x = left (x .words) (x .marks) (ofSearch (x .answer))
+
+abbrev pub runLeft : ℕ → ℕ → ℕ → List ℕ → List ℕ → List ℕ → Left
+runLeft memory log step tape words marks = leftByRun (run.runEntry memory log step tape (row words marks))
+
+-- a mean above 1 is refused first, and nothing changes
+abbrev pub searchLeft : Options → ℕ → Program → List ℕ → List ℕ → List ℕ → Left
+searchLeft o log p tape words marks =
+    cond (leb (o .mean) 1) (leftBySearch (search.searchEntry (optionsOf o) log p tape words marks)) (left words marks (refused unknownMean))
+
+-- the lent scores after a call, with its number
+pub record Scores : Type 0 where
+  pub scores : List Float
+  pub number : ℕ
+
+abbrev pub scoresWith : List Float → ℕ → Scores
+scoresWith scores number = record { scores = scores; number = number }
+
+abbrev pub scoresBy : ScoringAnswer → List Float → List Float → Scores
+scoresBy a computed lent = scoresWith (scoring.scoresLeft a computed lent) (scoring.scoringNumber a)
+
+abbrev pub scoreLeft : ℕ → ℕ → ℕ → ℕ → List ℕ → List ℕ → List Float → Scores
+scoreLeft memory log rows mean words marks scores = let computed = scoring.storeScores memory log rows (meanOf mean) words marks in
+    cond (leb mean 1)
+    (scoresBy (scoring.scoringAnswer (scoring.scoringChecked memory log rows words marks scores) computed) computed scores)
+    (scoresWith scores unknownMean)

@@ -1,0 +1,226 @@
+// Tavvinur for hosts in C and Rust: the proved entries as flat functions. Nothing is asked of the caller but that slices are what they say.
+ghost use mathlib.Core.Path.{_≡_};
+ghost use Rattle.rows.specs.Rows.{row};
+ghost use Rattle.loader.specs.Loading.{segment, program};
+ghost use Rattle.executor.specs.Entries.{creationChecked, createdRow};
+ghost use Rattle.rounds.specs.Defaults.{defaultOptions};
+ghost use Rattle.tavvinur.specs.Flat.{meanOf, meanNumber, optionsOf, flatOf, checkedNumber, refused, ofRun, ofSearch};
+ghost use Rattle.tavvinur.specs.Flat.{left, runLeft, searchLeft, scoresWith, scoreLeft};
+use checks::refusal::Checked;
+use executor::RunAnswer;
+use means::MeanType;
+use rounds::options::RaritySimulationOptions;
+use search::answer::SearchAnswer;
+
+// The options of a search; `mean` is 0 for arithmetic, 1 for harmonic.
+#[repr(C)]
+pub struct Options {
+    pub memory_size: u64,
+    pub amount_of_states: u64,
+    pub step_size: u32,
+    pub selection: u32,
+    pub iterations: u32,
+    pub mean: u32,
+    pub copy_init_ratio: f64,
+}
+
+// Document 01's numbers of an answer; what has no use is 0.
+#[repr(C)]
+pub struct Answer {
+    pub number: u64,
+    pub row: u64,
+    pub pc: u64,
+    pub value: u64,
+    pub used: u64,
+}
+
+const MOST_MEAN: u32 = 1;
+
+const UNKNOWN_MEAN: u64 = 53;
+
+fn mean_of(mean: u32) -> MeanType
+    ensures { λ r. ⌜ r ≡ meanOf mean ⌝ }
+{
+    if mean == 0 {
+        return MeanType::Arithmetic;
+    }
+    MeanType::Harmonic
+}
+
+fn mean_number(mean: MeanType) -> u32
+    ensures { λ r. ⌜ r ≡ meanNumber mean ⌝ }
+{
+    match mean {
+        MeanType::Arithmetic => 0,
+        MeanType::Harmonic => 1,
+    }
+}
+
+fn options_of(options: Options) -> RaritySimulationOptions
+    ensures { λ r. ⌜ r ≡ optionsOf options ⌝ }
+{
+    RaritySimulationOptions {
+        memory_size: options.memory_size,
+        amount_of_states: options.amount_of_states,
+        step_size: options.step_size,
+        selection: options.selection,
+        iterations: options.iterations,
+        copy_init_ratio: options.copy_init_ratio,
+        mean: mean_of(options.mean),
+    }
+}
+
+fn checked_number(checked: Checked) -> u64
+    ensures { λ r. ⌜ r ≡ checkedNumber checked ⌝ }
+{
+    match checked {
+        Checked::Accepted => 0,
+        Checked::Refused(refusal) => refusal.number(),
+    }
+}
+
+fn refused(number: u64) -> Answer
+    ensures { λ r. ⌜ r ≡ refused number ⌝ }
+{
+    Answer {
+        number,
+        row: 0,
+        pc: 0,
+        value: 0,
+        used: 0,
+    }
+}
+
+fn of_run(answer: RunAnswer) -> Answer
+    ensures { λ r. ⌜ r ≡ ofRun answer ⌝ }
+{
+    Answer {
+        number: answer.number(),
+        row: 0,
+        pc: answer.pc(),
+        value: answer.value(),
+        used: answer.used() as u64,
+    }
+}
+
+fn of_search(answer: SearchAnswer) -> Answer
+    ensures { λ r. ⌜ r ≡ ofSearch answer ⌝ }
+{
+    Answer {
+        number: answer.number(),
+        row: answer.row() as u64,
+        pc: answer.pc(),
+        value: answer.value(),
+        used: answer.used() as u64,
+    }
+}
+
+// The options that the Rust's command line starts from.
+#[no_mangle]
+pub extern "C" fn tavvinur_default_options() -> Options
+    ensures { λ r. ⌜ r ≡ flatOf defaultOptions ⌝ }
+{
+    let options = RaritySimulationOptions::default();
+    let mean = options.mean;
+    Options {
+        memory_size: options.memory_size,
+        amount_of_states: options.amount_of_states,
+        step_size: options.step_size,
+        selection: options.selection,
+        iterations: options.iterations,
+        mean: mean_number(mean),
+        copy_init_ratio: options.copy_init_ratio,
+    }
+}
+
+// Makes a new executor of a program in a lent row; 0, or the number that refuses the call.
+#[no_mangle]
+pub extern "C" fn tavvinur_new_executor(
+    words: &mut [u64],
+    marks: &mut [u8],
+    memory: u64,
+    log: u64,
+    code_address: u64,
+    code: &[u8],
+    data_address: u64,
+    data: &[u8],
+) -> u64
+    ensures { λ r. ⌜ r ≡ checkedNumber (creationChecked memory log (program (segment «code_address» (now (code .entry))) (segment «data_address» (now («data» .entry)))) (row (now (words .entry)) (now (marks .entry)))) ⌝ ∗ ⌜ row (now (words .exit)) (now (marks .exit)) ≡ createdRow (creationChecked memory log (program (segment «code_address» (now (code .entry))) (segment «data_address» (now («data» .entry)))) (row (now (words .entry)) (now (marks .entry)))) (program (segment «code_address» (now (code .entry))) (segment «data_address» (now («data» .entry)))) (row (now (words .entry)) (now (marks .entry))) ⌝ }
+{
+    checked_number(executor::new_executor(
+        words,
+        marks,
+        memory,
+        log,
+        code_address,
+        code,
+        data_address,
+        data,
+    ))
+}
+
+// Runs a lent row for at most `step` instructions more, on a lent tape from its front.
+#[no_mangle]
+pub extern "C" fn tavvinur_run(
+    words: &mut [u64],
+    marks: &mut [u8],
+    memory: u64,
+    log: u64,
+    step: u32,
+    tape: &[u64],
+) -> Answer
+    ensures { λ r. ⌜ left (now (words .exit)) (now (marks .exit)) r ≡ runLeft memory log step (now (tape .entry)) (now (words .entry)) (now (marks .entry)) ⌝ }
+{
+    of_run(executor::run(words, marks, memory, log, step, tape))
+}
+
+// Scores the rows of a lent store among themselves, one score a row; 0, or the number that tells why not.
+#[no_mangle]
+pub extern "C" fn tavvinur_score(
+    words: &[u64],
+    marks: &[u8],
+    memory: u64,
+    log: u64,
+    rows: u64,
+    mean: u32,
+    scores: &mut [f64],
+) -> u64
+    ensures { λ r. ⌜ scoresWith (now (scores .exit)) r ≡ scoreLeft memory log rows mean (now (words .entry)) (now (marks .entry)) (now (scores .entry)) ⌝ }
+{
+    if mean > MOST_MEAN {
+        return UNKNOWN_MEAN;
+    }
+    let answer = scoring::score_with_mean(words, marks, memory, log, rows, mean_of(mean), scores);
+    answer.number()
+}
+
+// Searches a program for bugs in a lent store, round after round.
+#[no_mangle]
+pub extern "C" fn tavvinur_search(
+    words: &mut [u64],
+    marks: &mut [u8],
+    options: Options,
+    log: u64,
+    code_address: u64,
+    code: &[u8],
+    data_address: u64,
+    data: &[u8],
+    tape: &[u64],
+) -> Answer
+    ensures { λ r. ⌜ left (now (words .exit)) (now (marks .exit)) r ≡ searchLeft options log (program (segment «code_address» (now (code .entry))) (segment «data_address» (now («data» .entry)))) (now (tape .entry)) (now (words .entry)) (now (marks .entry)) ⌝ }
+{
+    if options.mean > MOST_MEAN {
+        return refused(UNKNOWN_MEAN);
+    }
+    of_search(search::search_for_bugs(
+        words,
+        marks,
+        options_of(options),
+        log,
+        code_address,
+        code,
+        data_address,
+        data,
+        tape,
+    ))
+}
