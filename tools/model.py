@@ -1,4 +1,4 @@
-"""A model of document 01: one executor on its row, the entries over one row, scoring, and whole searches.
+"""A model of document 01: one executor on its row, the entries over one row, scoring, whole searches, and sheets.
 
 A second reading of the document that shares nothing with the Rattle code. The tools that make the lists in crates/*/data ask it
 what each case must come to.
@@ -6,6 +6,7 @@ what each case must come to.
 import collections
 import fractions
 import math
+import struct
 
 MASK = 2**64 - 1
 
@@ -118,10 +119,13 @@ class Executor:
             self.words[DEPTH] += 1
             pc = self.words[PC]
             try:
-                self.execute(decode(self.fetch(pc)), pc)
+                self.execute(self.decoded(pc), pc)
             except End as end:
                 return Answer(end.number, 0 if end.number == CLEAN else pc, end.value, self.used)
         return Answer(LIMIT_REACHED, self.words[PC], 0, self.used)
+
+    def decoded(self, pc):
+        return decode(self.fetch(pc))
 
     def fetch(self, pc):
         if pc // 8 >= self.size:
@@ -421,6 +425,13 @@ class Search:
         self.used += answer.used
         return answer
 
+    def inputs(self, found):
+        """The words that the row of a bug has logged; an error tells none."""
+        if found.number not in BUGS:
+            return []
+        words, log = self.rows[found.row][0], self.options.log
+        return words[len(words) - log :][: words[LOG_COUNT]]
+
     def store(self):
         """All words and all marks."""
         row_words, row_marks = row_sizes(self.options.memory, self.options.log)
@@ -449,3 +460,76 @@ def search_entry(words, marks, options, segments, tape):
     search = Search(options, segments, tape)
     found = search.search()
     return found, *search.store()
+
+
+# --- sheets ---
+
+FIELDS, FIELD_BYTES = 16, 128
+MOST_SHEET_BYTES, MOST_STATES, MOST_MEMORY, MOST_LOG = 61_440, 8, 1024, 64
+SHEET_LENGTH, PART_PAST, MEAN_PAST, VALUE_PAST = 51, 52, 53, 54
+MOST_COUNT = 2**32 - 1
+
+Asked = collections.namedtuple("Asked", "options segments tape")
+
+
+def bits_of(ratio):
+    return struct.unpack("<Q", struct.pack("<d", ratio))[0]
+
+
+def float_of(word):
+    return struct.unpack("<d", struct.pack("<Q", word))[0]
+
+
+# all ones in the first fields
+DEFAULTS = [3000, 1000, 50, 20, bits_of(0.6), HARMONIC, 1_048_576]
+
+
+def fields_of(sheet):
+    """The sixteen fields, with defaults put in."""
+    fields = list(struct.unpack(f"<{FIELDS}Q", sheet[:FIELD_BYTES]))
+    return [default if given == MASK else given for given, default in zip(fields, DEFAULTS)] + fields[len(DEFAULTS) :]
+
+
+def read_sheet(sheet, bench=True):
+    """The number that refuses a sheet, else 0, and what the sheet asks for; the bench program's limits can be left out."""
+    if len(sheet) < FIELD_BYTES or bench and len(sheet) > MOST_SHEET_BYTES:
+        return SHEET_LENGTH, None
+    fields = fields_of(sheet)
+    states, step, selection, rounds, ratio, mean, memory, log = fields[:8]
+    code, code_at, code_length, data, data_at, data_length, tape_at, tape_words = fields[8:]
+    parts = [(code_at, code_length), (data_at, data_length), (tape_at, 8 * tape_words)]
+    if any(offset + length > len(sheet) for offset, length in parts):
+        return PART_PAST, None
+    if mean > HARMONIC:
+        return MEAN_PAST, None
+    if max(step, selection, rounds) > MOST_COUNT or bench and (states > MOST_STATES or memory > MOST_MEMORY or log > MOST_LOG):
+        return VALUE_PAST, None
+    code_bytes, data_bytes, tape_bytes = (sheet[offset : offset + length] for offset, length in parts)
+    options = Options(states, step, selection, rounds, float_of(ratio), mean, memory, log)
+    return 0, Asked(options, [(code, code_bytes), (data, data_bytes)], list(struct.unpack(f"<{tape_words}Q", tape_bytes)))
+
+
+def lines_of(found, inputs=()):
+    """The printed lines of an answer."""
+    lines = ["answer {} row {} pc {} value {}".format(*found), *(f"input {word}" for word in inputs), f"used {found.used}"]
+    return "".join(line + "\n" for line in lines)
+
+
+def search_of(asked):
+    """The number that the search entry refuses with, else 0, and the search; the lent lengths are exact."""
+    o = asked.options
+    sizes = [o.states * size for size in row_sizes(o.memory, o.log)]
+    number = search_refused(o, asked.segments, *sizes)
+    return number, None if number else Search(*asked)
+
+
+def printed(sheet, bench=True):
+    """What the bench program prints for a sheet."""
+    number, asked = read_sheet(sheet, bench)
+    search = None
+    if not number:
+        number, search = search_of(asked)
+    if number:
+        return lines_of(Found(number, 0, 0, 0, 0))
+    found = search.search()
+    return lines_of(found, search.inputs(found))

@@ -143,9 +143,40 @@ def random_arithmetic(rng):
     return [rng.choice(texts)]
 
 
+def telling(register):
+    """Leaves with a register's value, which is then printed."""
+    return ["li a7, EXIT", f"mv a0, {register}", "ecall"]
+
+
 def random_texts(rng):
     texts = [f"li x{n}, {rng.choice(PLACES + SIZES)}" for n in POOL[2:] if rng.randrange(5)]
     for _ in range(rng.randrange(3, 12)):
         kinds = [random_call, random_access, random_access, random_jump, random_arithmetic, random_arithmetic]
         texts += rng.choice(kinds)(rng)
     return texts + (LEAVE if rng.randrange(3) else [])
+
+
+# --- random programs that loop and that change their own code ---
+
+
+def random_loop(rng):
+    """A body so many times over; the body may spoil the count."""
+    body = [text for _ in range(rng.randrange(1, 4)) for text in rng.choice([random_access, random_arithmetic, random_call])(rng)]
+    back = 4 * (len(body) + 2)
+    return [f"li s0, {rng.choice([1, 2, 3, 5, 9])}", *body, "addi s0, s0, -1", "beq s0, x0, .+8", f"jal x0, .-{back}"]
+
+
+def random_patch(rng, address):
+    """A word of the code is written anew: moved, changed by one bit, cleared, filled with two calls, or made uninitialised."""
+    source, target = (address // 8 * 8 + 8 * rng.randrange(16) for _ in range(2))
+    changes = [[], ["addi t0, t0, 128"], ["li t0, 0"], ["li t0, 115"], ["add t0, t0, t0"], ["lui t0, 16", "sub t0, t0, s1"]]
+    return [f"ld t0, {source}(x0)", *rng.choice(changes), f"sd {rng.choice(['t0', 't0', 't0', 't3'])}, {target}(x0)"]
+
+
+def varied_texts(rng, address):
+    """Straight parts, jumps, loops and patches, for code at this address; most tell a register at the end."""
+    texts = [f"li x{n}, {rng.choice(PLACES + SIZES)}" for n in POOL[2:] if rng.randrange(6)]
+    for _ in range(rng.randrange(2, 7)):
+        kinds = [random_call, random_access, random_jump, random_arithmetic, random_loop, lambda r: random_patch(r, address)]
+        texts += rng.choice(kinds)(rng)
+    return texts + rng.choice([telling(f"x{rng.choice(POOL)}")] * 4 + [LEAVE, []])

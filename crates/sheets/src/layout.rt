@@ -1,5 +1,5 @@
 // Where the parts of a line stand: three numbers, the words of the sheet, and the words of what is printed.
-ghost use Prim.Native.Nat.{_≤_, _<_};
+ghost use Prim.Native.Nat.{_≤_};
 use lists::columns::is_length;
 use lists::columns::length_at;
 

@@ -18,13 +18,13 @@ fn sheet_byte(numbers: &[u64], stored: usize, place: usize) -> u8
     )
 }
 
-pub fn sheet_of(numbers: &[u64], stored: usize, length: usize) -> [u8; MOST_SHEET]
-    requires { ⌜ (0 < stored) × (stored ≤ 512) × (length ≤ 61441) ⌝ }
-    ensures { λ r. ⌜ 61441 ≡ lib.ListN.length r ⌝ }
+pub fn sheet_of(numbers: &[u64], stored: usize, bytes: usize) -> [u8; MOST_SHEET]
+    requires { ⌜ (0 < stored) × (stored ≤ 512) × (bytes ≤ 61441) ⌝ }
+    ensures { λ r. ⌜ 61441 ≡ length r ⌝ }
 {
     let mut sheet = [0; MOST_SHEET];
     let mut i = 0;
-    while i < length {
+    while i < bytes {
         sheet[i] = sheet_byte(numbers, stored, i);
         i += 1;
     }
