@@ -1,1 +1,0 @@
-../../../../oracle/src/engine/rarity_simulation.rs
