@@ -523,8 +523,21 @@ def search_of(asked):
     return number, None if number else Search(*asked)
 
 
+def fnv1a(content):
+    h = 0xCBF29CE484222325
+    for byte in content:
+        h = (h ^ byte) * 0x100000001B3 & MASK
+    return h
+
+
+def store_lines(search):
+    """Digests of the words and of the marks that a search leaves, for hosts."""
+    words, marks = search.store()
+    return f"words {fnv1a(struct.pack(f'<{len(words)}Q', *words)):016x}\nmarks {fnv1a(bytes(marks)):016x}\n"
+
+
 def printed(sheet, bench=True):
-    """What the bench program prints for a sheet."""
+    """What the bench program prints for a sheet; without its limits, what a host prints, digests included."""
     number, asked = read_sheet(sheet, bench)
     search = None
     if not number:
@@ -532,4 +545,4 @@ def printed(sheet, bench=True):
     if number:
         return lines_of(Found(number, 0, 0, 0, 0))
     found = search.search()
-    return lines_of(found, search.inputs(found))
+    return lines_of(found, search.inputs(found)) + ("" if bench else store_lines(search))

@@ -4,7 +4,7 @@ use lib.Ieee.{mul, ofInt, ofBits}
 use Rattle.riscu.specs.Formats.{signed}
 use Rattle.riscu.specs.Decoding.{decoded}
 use Rattle.effects.specs.Arithmetic.{operated}
-use Rattle.effects.specs.Effects.{effectOf, assign, binaryOp, divuRemu, jalr, access, storeTo, sd}
+use Rattle.effects.specs.Effects.{effectOf, assign, binaryOp, divuRemu, jalr, validAddress, invalidAddress, storeTo, sd}
 use Rattle.effects.specs.System.{syscallId}
 use Rattle.effects.specs.Values.{valueAt}
 use Rattle.rows.specs.Execution.{applied, effectIn}
@@ -21,7 +21,7 @@ use Rattle.cases.specs.Cases.{ProvedCases}
 
 pub cases : ProvedCases
 unfolding operated decoded assign tail tailOf drawn recorded valueAt divuRemu validRange brk toCopy nearest mul ofInt ofBits baseOf exactMean product shares sum
-    fetched halfAt jalr applied runOf runFor newExecutor programmed started loaded loadedFrom sd access storeTo
+    fetched halfAt jalr applied runOf runFor newExecutor programmed started loaded loadedFrom sd validAddress invalidAddress storeTo
     continued advanced finished stepped interpreted executed followed signed effectIn effectOf binaryOp system callOf idOf syscallId exit
     searchFrom tapeShort roundOf ranOn filled runAll firstBug firstError usedAfter
 cases =

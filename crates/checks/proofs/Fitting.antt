@@ -3,16 +3,13 @@ use mathlib.Core.Path.{_≡_, refl}
 use mathlib.Core.Bool.{Bool, true, false, cond, _&&_}
 use Prim.Native.Nat.{ℕ}
 use lib.ListN.{length}
+use Rattle.riscu.proofs.Choices.{parts}
 use Rattle.loader.specs.Loading.{Program, Segment, Fits}
 use Rattle.checks.specs.Refusals.{isWhole, isInside}
 use Rattle.checks.specs.Segments.{segmentsChecked}
 use Rattle.checks.specs.declared.refusal.Refusal.the-variants.{SegmentLength, SegmentEnd}
 use Rattle.checks.specs.declared.refusal.Checked.the-variants.{Accepted, Refused}
 use Rattle.checks.proofs.Passed.{whole, inside}
-
-both : (a b : Bool) → a && b ≡ true → (a ≡ true) × (b ≡ true)
-both true b h = (refl, h)
-both false b h = (cc, cc)
 
 segment-fits : (w : ℕ) (s : Segment) → isWhole (length (s .content)) ≡ true → isInside w (s .address) (length (s .content)) ≡ true → Fits w s
 segment-fits w s h k = record { whole = whole (length (s .content)) h; inside = inside w (s .address) (length (s .content)) k }
@@ -26,6 +23,6 @@ two-accepted false b h = (cc, cc)
 pub segments-fit : (w : ℕ) (p : Program) → segmentsChecked w p ≡ Accepted → Fits w (p .codeSegment) × Fits w (p .dataSegment)
 segments-fit w p h =
     let t = two-accepted (isWhole (length (p .codeSegment .content)) && isWhole (length (p .dataSegment .content))) (isInside w (p .codeSegment .address) (length (p .codeSegment .content)) && isInside w (p .dataSegment .address) (length (p .dataSegment .content))) h in
-    let v = both (isWhole (length (p .codeSegment .content))) (isWhole (length (p .dataSegment .content))) (t .0) in
-    let i = both (isInside w (p .codeSegment .address) (length (p .codeSegment .content))) (isInside w (p .dataSegment .address) (length (p .dataSegment .content))) (t .1) in
+    let v = parts (isWhole (length (p .codeSegment .content))) (isWhole (length (p .dataSegment .content))) (t .0) in
+    let i = parts (isInside w (p .codeSegment .address) (length (p .codeSegment .content))) (isInside w (p .dataSegment .address) (length (p .dataSegment .content))) (t .1) in
     (segment-fits w (p .codeSegment) (v .0) (i .0), segment-fits w (p .dataSegment) (v .1) (i .1))

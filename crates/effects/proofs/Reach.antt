@@ -1,25 +1,23 @@
 -- The effect of an instruction names only registers 1 to 31 and memory words that there are.
-use mathlib.Core.Path.{_≡_, refl, sym}
-use mathlib.Core.Bool.{Bool, true, false, cond}
-use Prim.Native.Nat.{ℕ, _+_, _/_, _%_, _^_, _<_}
+use mathlib.Core.Path.{_≡_}
+use mathlib.Core.Bool.{true, false}
+use Prim.Native.Nat.{ℕ, _/_, _%_, _<_}
 use native.Mathlib.Omega.{arith}
 use lib.Dec.{eqb, ltb}
 use borrow.Author.Tests.{ltb-true, eqb-false}
+use Rattle.riscu.specs.Formats.{immB}
 use Rattle.riscu.specs.Registers.{Registers}
-use Rattle.riscu.proofs.Choices.{chosen}
+use Rattle.riscu.proofs.Choices.{chosen, parts}
 use Rattle.riscu.specs.declared.instruction.Instruction.{Instruction}
 use Rattle.riscu.specs.declared.instruction.Instruction.the-variants as instruction
-use Rattle.answers.specs.declared.bug.Bug.the-variants.{DivisionByZero, AccessToUnalignedAddress, AccessToOutOfRangeAddress}
+use Rattle.answers.specs.declared.bug.Bug.the-variants.{DivisionByZero}
 use Rattle.effects.specs.declared.arithmetic.Op.{Op}
 use Rattle.effects.specs.declared.arithmetic.Op.the-variants.{Add, Sub, Mul, Sltu, Divu, Remu}
 use Rattle.effects.specs.declared.value.Value.{Value}
 use Rattle.effects.specs.declared.value.Value.the-variants.{Concrete, Uninitialized}
-use Rattle.effects.specs.declared.rules.Access.{Access}
-use Rattle.effects.specs.declared.rules.Access.the-variants.{Word, Invalid}
-use Rattle.effects.specs.declared.effect.Effect.{Effect}
-use Rattle.effects.specs.declared.effect.Effect.the-variants.{Assign, Load, Jump}
+use Rattle.effects.specs.declared.effect.Effect.the-variants.{Assign, Load, Store, Jump}
 use Rattle.effects.specs.Arithmetic.{add, operated}
-use Rattle.effects.specs.Effects.{InReach, bug, next, assign, binaryOp, isZero, divuRemu, beq, jalr, access, loadFrom, ld, storeTo, sd, effectOf}
+use Rattle.effects.specs.Effects.{InReach, bug, next, assign, binaryOp, isZero, divuRemu, beq, jalr, validAddress, invalidAddress, loadFrom, ld, storeTo, sd, effectOf}
 
 above-zero : (n : ℕ) → eqb n 0 ≡ false → 0 < n
 above-zero n f = let h = eqb-false n 0 f in omega arith
@@ -50,41 +48,35 @@ unfolding jalr
 jalr-reach w rd imm pc (Concrete base) h = assign-reach w rd (Concrete (next pc)) (add base imm) h
 jalr-reach w rd imm pc Uninitialized h = tt
 
--- an access that names a word names one below W
-abbrev Below : ℕ → Access → Type 0
-Below w (Word m) = m < w
-Below w (Invalid b) = Unit {0}
+-- a valid address names a word below W
+valid-below : (address w : ℕ) → validAddress address w ≡ true → address / 8 < w
+unfolding validAddress
+valid-below address w t = ltb-true (address / 8) w (parts (eqb (address % 8) 0) (ltb (address / 8) w) t .1)
 
-access-below : (address w : ℕ) → Below w (access address w)
-unfolding access
-access-below address w = aligned (eqb (address % 8) 0)
-  where
-    inside : (b : Bool) → b ≡ ltb (address / 8) w → Below w (cond b (Word (address / 8)) (Invalid AccessToOutOfRangeAddress))
-    inside true t = ltb-true (address / 8) w (sym t)
-    inside false t = tt
+invalid-reach : (w address : ℕ) → InReach w (invalidAddress address)
+unfolding invalidAddress
+invalid-reach w address = tt
 
-    aligned : (b : Bool) → Below w (cond b (cond (ltb (address / 8) w) (Word (address / 8)) (Invalid AccessToOutOfRangeAddress)) (Invalid (AccessToUnalignedAddress address)))
-    aligned true = inside (ltb (address / 8) w) refl
-    aligned false = tt
-
-load-reach : (w : ℕ) (a : Access) (rd pc : ℕ) → rd < 32 → Below w a → InReach w (loadFrom a rd pc)
+load-reach : (w address rd pc : ℕ) → rd < 32 → InReach w (loadFrom address rd pc w)
 unfolding loadFrom
-load-reach w (Word m) rd pc h k = chosen (InReach w) (eqb rd 0) (Jump pc) (Load rd m pc) (λ t. tt) (λ f. (above-zero rd f, h, k))
-load-reach w (Invalid b) rd pc h k = tt
+load-reach w address rd pc h =
+    chosen (InReach w) (validAddress address w) _ (invalidAddress address)
+    (λ t. chosen (InReach w) (eqb rd 0) (Jump pc) (Load rd (address / 8) pc) (λ t. tt) (λ f. (above-zero rd f, h, valid-below address w t)))
+    (λ f. invalid-reach w address)
 
 ld-reach : (w rd imm pc : ℕ) (base : Value) → rd < 32 → InReach w (ld rd imm pc base w)
 unfolding ld
-ld-reach w rd imm pc (Concrete base) h = load-reach w (access (add base imm) w) rd (next pc) h (access-below (add base imm) w)
+ld-reach w rd imm pc (Concrete base) h = load-reach w (add base imm) rd (next pc) h
 ld-reach w rd imm pc Uninitialized h = tt
 
-store-reach : (w : ℕ) (a : Access) (v : Value) (pc : ℕ) → Below w a → InReach w (storeTo a v pc)
+store-reach : (w address : ℕ) (v : Value) (pc : ℕ) → InReach w (storeTo address v pc w)
 unfolding storeTo
-store-reach w (Word m) v pc k = k
-store-reach w (Invalid b) v pc k = tt
+store-reach w address v pc =
+    chosen (InReach w) (validAddress address w) (Store (address / 8) v pc) (invalidAddress address) (valid-below address w) (λ f. invalid-reach w address)
 
 sd-reach : (w imm pc : ℕ) (base v : Value) → InReach w (sd imm pc base v w)
 unfolding sd
-sd-reach w imm pc (Concrete base) v = store-reach w (access (add base imm) w) v (next pc) (access-below (add base imm) w)
+sd-reach w imm pc (Concrete base) v = store-reach w (add base imm) v (next pc)
 sd-reach w imm pc Uninitialized v = tt
 
 pub in-reach : (i : Instruction) (pc : ℕ) (x : ℕ → Value) (w : ℕ) → Registers i → InReach w (effectOf i pc x w)
@@ -92,7 +84,7 @@ unfolding effectOf
 in-reach (instruction.Lui t) pc x w h = assign-reach w (t .rd) (Concrete (t .imm)) (next pc) h
 in-reach (instruction.Jal t) pc x w h = assign-reach w (t .rd) (Concrete (next pc)) (add pc (t .imm)) h
 in-reach (instruction.Jalr t) pc x w h = jalr-reach w (t .rd) (t .imm) pc (x (t .rs1)) (h .rd)
-in-reach (instruction.Beq t) pc x w h = beq-reach w (t .imm) pc (x (t .rs1)) (x (t .rs2))
+in-reach (instruction.Beq t) pc x w h = beq-reach w (immB (t .word)) pc (x (t .rs1)) (x (t .rs2))
 in-reach (instruction.Ld t) pc x w h = ld-reach w (t .rd) (t .imm) pc (x (t .rs1)) (h .rd)
 in-reach (instruction.Sd t) pc x w h = sd-reach w (t .imm) pc (x (t .rs1)) (x (t .rs2))
 in-reach (instruction.Addi t) pc x w h = binary-reach w Add (t .rd) pc (x (t .rs1)) (Concrete (t .imm)) (h .rd)

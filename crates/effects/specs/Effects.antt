@@ -1,8 +1,9 @@
 -- What each instruction does ("Executing" in document 01), from its pc, the values of its operands and the number W of memory words.
 -- Arithmetic, addresses and targets are the manual's; where document 01 departs from it, a line says so.
-use mathlib.Core.Bool.{Bool, false, cond}
+use mathlib.Core.Bool.{Bool, false, cond, _&&_}
 use Prim.Native.Nat.{ℕ, _/_, _%_, _<_}
 use lib.Dec.{eqb, ltb}
+use Rattle.riscu.specs.Formats.{immB}
 use Rattle.riscu.specs.declared.instruction.Instruction.{Instruction}
 use Rattle.riscu.specs.declared.instruction.Instruction.the-variants as instruction
 use Rattle.answers.specs.declared.bug.Bug.{Bug}
@@ -16,8 +17,6 @@ use Rattle.effects.specs.declared.arithmetic.Op.{Op}
 use Rattle.effects.specs.declared.arithmetic.Op.the-variants.{Add, Sub, Mul, Sltu, Divu, Remu}
 use Rattle.effects.specs.declared.value.Value.{Value}
 use Rattle.effects.specs.declared.value.Value.the-variants.{Concrete, Uninitialized}
-use Rattle.effects.specs.declared.rules.Access.{Access}
-use Rattle.effects.specs.declared.rules.Access.the-variants.{Word, Invalid}
 use Rattle.effects.specs.declared.effect.Effect.{Effect}
 use Rattle.effects.specs.declared.effect.Effect.the-variants.{Assign, Load, Store, Jump, Call, End}
 use Rattle.effects.specs.Arithmetic.{add, operated}
@@ -71,29 +70,28 @@ unfoldable pub jalr : ℕ → ℕ → ℕ → Value → Effect
 jalr rd imm pc (Concrete base) = assign rd (Concrete (next pc)) (add base imm)
 jalr rd imm pc Uninitialized = notSupported JalrUninitializedBase
 
--- the memory word at an address: 43 if unaligned, then 44 if out of range
-unfoldable pub access : ℕ → ℕ → Access
-access address w =
-    cond (eqb (address % 8) 0)
-    (cond (ltb (address / 8) w) (Word (address / 8)) (Invalid AccessToOutOfRangeAddress))
-    (Invalid (AccessToUnalignedAddress address))
+-- an address that names one of the W memory words
+unfoldable pub validAddress : ℕ → ℕ → Bool
+validAddress address w = eqb (address % 8) 0 && ltb (address / 8) w
 
--- ld of an accessed word into rd; x0 is never written
-unfoldable pub loadFrom : Access → ℕ → ℕ → Effect
-loadFrom (Word m) rd pc = cond (eqb rd 0) (Jump pc) (Load rd m pc)
-loadFrom (Invalid b) rd pc = bug b
+-- what comes of another: 43 if it is unaligned, else 44
+unfoldable pub invalidAddress : ℕ → Effect
+invalidAddress address = bug (cond (eqb (address % 8) 0) AccessToOutOfRangeAddress (AccessToUnalignedAddress address))
+
+-- ld of the word at an address into rd; x0 is never written
+unfoldable pub loadFrom : ℕ → ℕ → ℕ → ℕ → Effect
+loadFrom address rd pc w = cond (validAddress address w) (cond (eqb rd 0) (Jump pc) (Load rd (address / 8) pc)) (invalidAddress address)
 
 unfoldable pub ld : ℕ → ℕ → ℕ → Value → ℕ → Effect
-ld rd imm pc (Concrete base) w = loadFrom (access (add base imm) w) rd (next pc)
+ld rd imm pc (Concrete base) w = loadFrom (add base imm) rd (next pc) w
 ld rd imm pc Uninitialized w = notSupported LdUninitializedBase
 
--- sd of a value, which may be uninitialised, to an accessed word
-unfoldable pub storeTo : Access → Value → ℕ → Effect
-storeTo (Word m) v pc = Store m v pc
-storeTo (Invalid b) v pc = bug b
+-- sd of a value, which may be uninitialised, to the word at an address
+unfoldable pub storeTo : ℕ → Value → ℕ → ℕ → Effect
+storeTo address v pc w = cond (validAddress address w) (Store (address / 8) v pc) (invalidAddress address)
 
 unfoldable pub sd : ℕ → ℕ → Value → Value → ℕ → Effect
-sd imm pc (Concrete base) v w = storeTo (access (add base imm) w) v (next pc)
+sd imm pc (Concrete base) v w = storeTo (add base imm) v (next pc) w
 sd imm pc Uninitialized v w = notSupported SdUninitializedBase
 
 -- the effect of an instruction at pc, where register n holds x n, with W memory words
@@ -101,7 +99,7 @@ unfoldable pub effectOf : Instruction → ℕ → (ℕ → Value) → ℕ → Ef
 effectOf (instruction.Lui t) pc x w = lui (t .rd) (t .imm) pc
 effectOf (instruction.Jal t) pc x w = jal (t .rd) (t .imm) pc
 effectOf (instruction.Jalr t) pc x w = jalr (t .rd) (t .imm) pc (x (t .rs1))
-effectOf (instruction.Beq t) pc x w = beq (t .imm) pc (x (t .rs1)) (x (t .rs2))
+effectOf (instruction.Beq t) pc x w = beq (immB (t .word)) pc (x (t .rs1)) (x (t .rs2))
 effectOf (instruction.Ld t) pc x w = ld (t .rd) (t .imm) pc (x (t .rs1)) w
 effectOf (instruction.Sd t) pc x w = sd (t .imm) pc (x (t .rs1)) (x (t .rs2)) w
 effectOf (instruction.Addi t) pc x w = binaryOp Add (t .rd) pc (x (t .rs1)) (Concrete (t .imm))

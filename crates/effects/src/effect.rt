@@ -2,6 +2,7 @@
 ghost use mathlib.Core.Path.{_≡_};
 ghost use Prim.Native.Nat.{_<_};
 ghost use Rattle.riscu.specs.Registers.{Registers, RRegisters, IRegisters, SRegisters, BRegisters};
+ghost use Rattle.riscu.specs.Formats.{immB};
 ghost use Rattle.effects.specs.Values.{valueAt, RegisterFile};
 ghost use Rattle.effects.specs.Effects.{binaryOp, divuRemu, beq as beqOf, jalr as jalrOf, ld as ldOf, sd as sdOf, effectOf};
 use crate::arithmetic::Op;
@@ -66,11 +67,11 @@ fn execute_itype(words: &[u64], marks: &[u8], op: Op, t: IType, pc: u64) -> Effe
 
 fn execute_beq(words: &[u64], marks: &[u8], t: BType, pc: u64) -> Effect
     requires { ⌜ RegisterFile (now words) (now marks) ⌝ ∗ ⌜ BRegisters t ⌝ }
-    ensures { λ r. ⌜ r ≡ beqOf (t .imm) pc (valueAt (now (words .entry)) (now (marks .entry)) (t .rs1)) (valueAt (now (words .entry)) (now (marks .entry)) (t .rs2)) ⌝ }
+    ensures { λ r. ⌜ r ≡ beqOf (immB (t .word)) pc (valueAt (now (words .entry)) (now (marks .entry)) (t .rs1)) (valueAt (now (words .entry)) (now (marks .entry)) (t .rs2)) ⌝ }
 {
     let a = value_at(words, marks, t.rs1);
     let b = value_at(words, marks, t.rs2);
-    beq(t.imm, pc, a, b)
+    beq(t.word, pc, a, b)
 }
 
 fn execute_jalr(words: &[u64], marks: &[u8], t: IType, pc: u64) -> Effect

@@ -1,7 +1,8 @@
 // The rules of the instructions, by the values of their operands.
 ghost use mathlib.Core.Path.{_≡_};
-ghost use Rattle.effects.specs.Effects.{notSupported, missingOperand, binaryOp, isZero, divuRemu, loadFrom, storeTo};
-ghost use Rattle.effects.specs.Effects.{next as nextOf, assign as assignOf, access as accessOf};
+ghost use Rattle.riscu.specs.Formats.{immB};
+ghost use Rattle.effects.specs.Effects.{notSupported, missingOperand, binaryOp, isZero, divuRemu};
+ghost use Rattle.effects.specs.Effects.{next as nextOf, assign as assignOf, validAddress, invalidAddress, loadFrom, storeTo};
 ghost use Rattle.effects.specs.Effects.{lui as luiOf, beq as beqOf, jal as jalOf, jalr as jalrOf, ld as ldOf, sd as sdOf};
 use crate::arithmetic::Op;
 use crate::arithmetic::operate;
@@ -12,14 +13,9 @@ use answers::bug::UninitializedMemoryAccessReason;
 use answers::error::ExecutorError;
 use answers::error::NotSupportedReason;
 use answers::outcome::Outcome;
+use riscu::immediate::imm_b;
 use riscu::instruction::INSTRUCTION_SIZE;
 use std::num::wrapping_add_u64;
-
-// A memory word, or why an address names none.
-pub enum Access {
-    Word(usize),
-    Invalid(Bug),
-}
 
 fn next(pc: u64) -> u64
     ensures { λ r. ⌜ r ≡ nextOf pc ⌝ }
@@ -89,8 +85,10 @@ pub fn divu_remu(op: Op, rd: usize, pc: u64, a: Value, b: Value) -> Effect
     }
 }
 
-pub fn beq(imm: u64, pc: u64, a: Value, b: Value) -> Effect
-    ensures { λ r. ⌜ r ≡ beqOf imm pc a b ⌝ }
+// The immediate is put together only where the branch is taken: the compiler then makes a branch of it, and the next
+// fetch need not wait for the comparison.
+pub fn beq(word: u32, pc: u64, a: Value, b: Value) -> Effect
+    ensures { λ r. ⌜ r ≡ beqOf (immB word) pc a b ⌝ }
 {
     let Value::Concrete(x) = a else {
         return missing_operand();
@@ -100,7 +98,7 @@ pub fn beq(imm: u64, pc: u64, a: Value, b: Value) -> Effect
     };
     if x == y {
         Effect::Jump {
-            pc: wrapping_add_u64(pc, imm),
+            pc: wrapping_add_u64(pc, imm_b(word)),
         }
     } else {
         Effect::Jump { pc: next(pc) }
@@ -122,33 +120,38 @@ pub fn jalr(rd: usize, imm: u64, pc: u64, a: Value) -> Effect
     assign_rd(rd, Value::Concrete(next(pc)), wrapping_add_u64(base, imm))
 }
 
-// The word at an address of a memory of `memory` words.
-fn check_for_valid_memory_address(address: u64, memory: u64) -> Access
-    ensures { λ r. ⌜ r ≡ accessOf address memory ⌝ }
+// Whether an address names a word of a memory of `memory` words.
+fn is_valid_memory_address(address: u64, memory: u64) -> bool
+    ensures { λ r. ⌜ r ≡ validAddress address memory ⌝ }
+{
+    address % 8 == 0 && address / 8 < memory
+}
+
+fn invalid_memory_address(address: u64) -> Effect
+    ensures { λ r. ⌜ r ≡ invalidAddress address ⌝ }
 {
     if address % 8 == 0 {
-        if address / 8 < memory {
-            Access::Word((address / 8) as usize)
-        } else {
-            Access::Invalid(Bug::AccessToOutOfRangeAddress)
-        }
+        Effect::End(Outcome::Found(Bug::AccessToOutOfRangeAddress))
     } else {
-        Access::Invalid(Bug::AccessToUnalignedAddress(address))
+        Effect::End(Outcome::Found(Bug::AccessToUnalignedAddress(address)))
     }
 }
 
-fn load_from(access: Access, rd: usize, pc: u64) -> Effect
-    ensures { λ r. ⌜ r ≡ loadFrom access rd pc ⌝ }
+fn load_from(address: u64, rd: usize, pc: u64, memory: u64) -> Effect
+    ensures { λ r. ⌜ r ≡ loadFrom address rd pc memory ⌝ }
 {
-    match access {
-        Access::Word(word) => {
-            if rd == 0 {
-                Effect::Jump { pc }
-            } else {
-                Effect::Load { rd, word, pc }
+    if is_valid_memory_address(address, memory) {
+        if rd == 0 {
+            Effect::Jump { pc }
+        } else {
+            Effect::Load {
+                rd,
+                word: (address / 8) as usize,
+                pc,
             }
         }
-        Access::Invalid(bug) => Effect::End(Outcome::Found(bug)),
+    } else {
+        invalid_memory_address(address)
     }
 }
 
@@ -158,19 +161,20 @@ pub fn ld(rd: usize, imm: u64, pc: u64, a: Value, memory: u64) -> Effect
     let Value::Concrete(base) = a else {
         return not_supported(NotSupportedReason::LdUninitializedBase);
     };
-    load_from(
-        check_for_valid_memory_address(wrapping_add_u64(base, imm), memory),
-        rd,
-        next(pc),
-    )
+    load_from(wrapping_add_u64(base, imm), rd, next(pc), memory)
 }
 
-fn store_to(access: Access, value: Value, pc: u64) -> Effect
-    ensures { λ r. ⌜ r ≡ storeTo access value pc ⌝ }
+fn store_to(address: u64, value: Value, pc: u64, memory: u64) -> Effect
+    ensures { λ r. ⌜ r ≡ storeTo address value pc memory ⌝ }
 {
-    match access {
-        Access::Word(word) => Effect::Store { word, value, pc },
-        Access::Invalid(bug) => Effect::End(Outcome::Found(bug)),
+    if is_valid_memory_address(address, memory) {
+        Effect::Store {
+            word: (address / 8) as usize,
+            value,
+            pc,
+        }
+    } else {
+        invalid_memory_address(address)
     }
 }
 
@@ -180,9 +184,5 @@ pub fn sd(imm: u64, pc: u64, a: Value, value: Value, memory: u64) -> Effect
     let Value::Concrete(base) = a else {
         return not_supported(NotSupportedReason::SdUninitializedBase);
     };
-    store_to(
-        check_for_valid_memory_address(wrapping_add_u64(base, imm), memory),
-        value,
-        next(pc),
-    )
+    store_to(wrapping_add_u64(base, imm), value, next(pc), memory)
 }

@@ -1,5 +1,5 @@
 -- The tests of a sound row on lists: valid slots, and words that are all 0.
-use mathlib.Core.Bool.{Bool, true, false, _&&_}
+use mathlib.Core.Bool.{Bool, true, _&&_}
 use mathlib.Core.List.{List, [], _∷_}
 use mathlib.Core.Path.{_≡_, refl, ap}
 use Prim.Native.Nat.{ℕ, zero, suc, _≤_, _<_}
@@ -7,6 +7,7 @@ use native.Mathlib.Omega.{arith}
 use lib.Dec.{eqb}
 use lib.ListN.{length, getD, set, drop}
 use borrow.Author.Tests.{eqb-true}
+use Rattle.riscu.proofs.Choices.{parts}
 use Rattle.effects.specs.declared.value.Value.{Value}
 use Rattle.effects.specs.declared.value.Value.the-variants.{Concrete, Uninitialized}
 use Rattle.rows.specs.Rows.{wordOf, markOf}
@@ -15,10 +16,6 @@ use Rattle.rows.specs.Valid.{slotValid, slotsValid, allZero}
 -- a test of two parts
 pub both : {a b : Bool} → a ≡ true → b ≡ true → a && b ≡ true
 both p q = rw (p, q)
-
-pub parts : (a b : Bool) → a && b ≡ true → (a ≡ true) × (b ≡ true)
-parts true b h = (refl, h)
-parts false b h = let z : _≡_ {A = ℕ} 0 1 = cc in absurd (omega arith)
 
 -- a value is stored as a valid slot
 stored-valid : (v : Value) → slotValid (wordOf v) (markOf v) ≡ true

@@ -1,7 +1,17 @@
--- A claim about what a test chooses, from the claim about each choice.
+-- What a test chooses, and a test of two parts.
 use mathlib.Core.Path.{_≡_, refl}
-use mathlib.Core.Bool.{Bool, true, false, cond}
+use mathlib.Core.Bool.{Bool, true, false, cond, _&&_}
 
+-- a claim about it, from the claim about each choice
 pub chosen : {A : Type 0} (P : A → Type 0) (b : Bool) (x y : A) → (b ≡ true → P x) → (b ≡ false → P y) → P (cond b x y)
 chosen P true x y p q = p refl
 chosen P false x y p q = q refl
+
+-- a test that chooses between two that are the same
+pub same : {A : Type 0} (b : Bool) (x : A) → cond b x x ≡ x
+same true x = refl
+same false x = refl
+
+pub parts : (a b : Bool) → a && b ≡ true → (a ≡ true) × (b ≡ true)
+parts true b h = (refl, h)
+parts false b h = (cc, cc)

@@ -2,9 +2,8 @@
 ghost use mathlib.Core.Path.{_≡_};
 ghost use Prim.Native.Nat.{_<_, _^_};
 ghost use Rattle.riscu.specs.Formats.{rType, iType, sType, bType, uType, jType};
-ghost use Rattle.riscu.specs.Formats.{rd as rdOf, rs1 as rs1Of, rs2 as rs2Of};
+ghost use Rattle.riscu.specs.Formats.{rd as rdOf, rs1 as rs1Of, rs2 as rs2Of, funct3 as funct3Of};
 ghost use Rattle.riscu.specs.Decoding.{decoded, decodedOp};
-use crate::immediate::imm_b;
 use crate::immediate::imm_i;
 use crate::immediate::imm_j;
 use crate::immediate::imm_s;
@@ -34,6 +33,12 @@ fn rs2(word: u64) -> usize
     ensures { λ r. ⌜ r ≡ rs2Of word ⌝ }
 {
     (word / 0x10_0000 % 32) as usize
+}
+
+fn funct3(word: u64) -> u64
+    ensures { λ r. ⌜ r ≡ funct3Of word ⌝ }
+{
+    word / 0x1000 % 8
 }
 
 fn r_type(word: u64) -> RType
@@ -68,14 +73,14 @@ fn s_type(word: u64) -> SType
     }
 }
 
-fn b_type(word: u64) -> BType
-    requires { ⌜ word < 2 ^ 32 ⌝ }
-    ensures { λ r. ⌜ r ≡ bType word ⌝ }
+fn b_type(raw: u32) -> BType
+    ensures { λ r. ⌜ r ≡ bType raw ⌝ }
 {
+    let word = raw as u64;
     BType {
         rs1: rs1(word),
         rs2: rs2(word),
-        imm: imm_b(word),
+        word: raw,
     }
 }
 
@@ -99,62 +104,59 @@ fn j_type(word: u64) -> JType
     }
 }
 
-// Opcode 0x33: register with register.
+// Opcode 0x33: register with register. Most have funct7 0.
 fn decode_op(word: u64) -> Decoded
     ensures { λ r. ⌜ r ≡ decodedOp word ⌝ }
 {
-    let funct3 = word / 0x1000 % 8;
     let funct7 = word / 0x200_0000 % 128;
-    match funct3 {
-        0 => match funct7 {
+    let funct3 = funct3(word);
+    match funct7 {
+        0 => match funct3 {
             0 => Decoded::Valid(Instruction::Add(r_type(word))),
-            0x20 => Decoded::Valid(Instruction::Sub(r_type(word))),
-            1 => Decoded::Valid(Instruction::Mul(r_type(word))),
+            3 => Decoded::Valid(Instruction::Sltu(r_type(word))),
             _ => Decoded::Invalid,
         },
-        3 => match funct7 {
-            0 => Decoded::Valid(Instruction::Sltu(r_type(word))),
+        1 => match funct3 {
+            0 => Decoded::Valid(Instruction::Mul(r_type(word))),
+            5 => Decoded::Valid(Instruction::Divu(r_type(word))),
+            7 => Decoded::Valid(Instruction::Remu(r_type(word))),
             _ => Decoded::Invalid,
         },
-        5 => match funct7 {
-            1 => Decoded::Valid(Instruction::Divu(r_type(word))),
-            _ => Decoded::Invalid,
-        },
-        7 => match funct7 {
-            1 => Decoded::Valid(Instruction::Remu(r_type(word))),
+        0x20 => match funct3 {
+            0 => Decoded::Valid(Instruction::Sub(r_type(word))),
             _ => Decoded::Invalid,
         },
         _ => Decoded::Invalid,
     }
 }
 
-// The instruction that a word encodes, or that it encodes none of the fourteen.
+// The instruction that a word encodes, or that it encodes none of the fourteen. Each arm tests its own funct3, so that
+// it is one test of the word's bits.
 pub fn decode(raw: u32) -> Decoded
     ensures { λ r. ⌜ r ≡ decoded raw ⌝ }
 {
     let word = raw as u64;
     let opcode = word % 128;
-    let funct3 = word / 0x1000 % 8;
     match opcode {
         0x37 => Decoded::Valid(Instruction::Lui(u_type(word))),
         0x6F => Decoded::Valid(Instruction::Jal(j_type(word))),
-        0x67 => match funct3 {
+        0x67 => match funct3(word) {
             0 => Decoded::Valid(Instruction::Jalr(i_type(word))),
             _ => Decoded::Invalid,
         },
-        0x63 => match funct3 {
-            0 => Decoded::Valid(Instruction::Beq(b_type(word))),
+        0x63 => match funct3(word) {
+            0 => Decoded::Valid(Instruction::Beq(b_type(raw))),
             _ => Decoded::Invalid,
         },
-        0x13 => match funct3 {
+        0x13 => match funct3(word) {
             0 => Decoded::Valid(Instruction::Addi(i_type(word))),
             _ => Decoded::Invalid,
         },
-        0x03 => match funct3 {
+        0x03 => match funct3(word) {
             3 => Decoded::Valid(Instruction::Ld(i_type(word))),
             _ => Decoded::Invalid,
         },
-        0x23 => match funct3 {
+        0x23 => match funct3(word) {
             3 => Decoded::Valid(Instruction::Sd(s_type(word))),
             _ => Decoded::Invalid,
         },

@@ -15,34 +15,21 @@ fn sign_extend(x: u64, sign: u64) -> u64
     }
 }
 
-pub fn imm_i(word: u64) -> u64
+pub(crate) fn imm_i(word: u64) -> u64
     requires { ⌜ word < 2 ^ 32 ⌝ }
     ensures { λ r. ⌜ r ≡ immI word ⌝ }
 {
     sign_extend(word / 0x10_0000 % 0x1000, 0x800)
 }
 
-pub fn imm_s(word: u64) -> u64
+pub(crate) fn imm_s(word: u64) -> u64
     requires { ⌜ word < 2 ^ 32 ⌝ }
     ensures { λ r. ⌜ r ≡ immS word ⌝ }
 {
     sign_extend(word / 0x200_0000 % 128 * 32 + word / 128 % 32, 0x800)
 }
 
-pub fn imm_b(word: u64) -> u64
-    requires { ⌜ word < 2 ^ 32 ⌝ }
-    ensures { λ r. ⌜ r ≡ immB word ⌝ }
-{
-    sign_extend(
-        word / 0x8000_0000 % 2 * 0x1000
-            + word / 128 % 2 * 0x800
-            + word / 0x200_0000 % 64 * 32
-            + word / 256 % 16 * 2,
-        0x1000,
-    )
-}
-
-pub fn imm_j(word: u64) -> u64
+pub(crate) fn imm_j(word: u64) -> u64
     requires { ⌜ word < 2 ^ 32 ⌝ }
     ensures { λ r. ⌜ r ≡ immJ word ⌝ }
 {
@@ -56,9 +43,23 @@ pub fn imm_j(word: u64) -> u64
 }
 
 // lui's 20 bits, extended by zeros.
-pub fn imm_u(word: u64) -> u64
+pub(crate) fn imm_u(word: u64) -> u64
     requires { ⌜ word < 2 ^ 32 ⌝ }
     ensures { λ r. ⌜ r ≡ immU word ⌝ }
 {
     word / 0x1000 % 0x10_0000 * 0x1000
+}
+
+// The immediate of a branch (BType), for where it is taken.
+pub fn imm_b(raw: u32) -> u64
+    ensures { λ r. ⌜ r ≡ immB raw ⌝ }
+{
+    let word = raw as u64;
+    sign_extend(
+        word / 0x8000_0000 % 2 * 0x1000
+            + word / 128 % 2 * 0x800
+            + word / 0x200_0000 % 64 * 32
+            + word / 256 % 16 * 2,
+        0x1000,
+    )
 }

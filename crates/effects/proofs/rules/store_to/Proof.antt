@@ -1,21 +1,24 @@
-use borrow.Author.Needs.{needs}
 use Rattle.effects.specs.Effects.{storeTo}
+use mathlib.Core.Path.{sym, _∙_}
+use borrow.Author.Needs.{needs}
 use Rattle.effects.proofs.rules.store_to.Statement.{statement}
 use Rattle.effects.proofs.rules.store_to.Tie as tie
 
-enum-known-access : tie.Need-enum-known-access
-enum-known-access c = search needs
+is-valid-memory-address-requires : tie.Need-is-valid-memory-address-requires
+is-valid-memory-address-requires c κs = search needs
 
-enum-known-access-2 : tie.Need-enum-known-access-2
-enum-known-access-2 c = search needs
+invalid-memory-address-requires : tie.Need-invalid-memory-address-requires
+invalid-memory-address-requires c κs = search needs
 
 returns : tie.Need-returns
 unfolding storeTo
-returns c = rw (c .before .access .given .1)
+returns c = rw (sym (c .before .is-valid-memory-address .ensures) ∙ c .if1 .taken)
 
 returns-2 : tie.Need-returns-2
 unfolding storeTo
-returns-2 c = rw (c .before .access2 .given .1)
+returns-2 c = rw (c .invalid-memory-address .ensures, sym (c .before .before .is-valid-memory-address .ensures) ∙ c .before .if1 .left)
 
 pub store-to-spec : {M : Type 1} → statement M
-store-to-spec = tie.close (tie.spec enum-known-access enum-known-access-2 returns returns-2)
+store-to-spec =
+    tie.close
+    (tie.spec is-valid-memory-address-requires invalid-memory-address-requires returns returns-2)

@@ -1,8 +1,16 @@
 use borrow.Author.Needs.{needs}
 use borrow.Author.Tests.{ne-eqb}
+use mathlib.Core.Path.{sym, ap, _∙_}
+use mathlib.Core.Bool.{cond}
+use lib.Dec.{eqb}
 use Rattle.riscu.specs.Decoding.{decodedOp}
+use Rattle.riscu.specs.declared.instruction.Decoded.the-variants.{Invalid}
+use Rattle.riscu.proofs.Choices.{same}
 use Rattle.riscu.proofs.decode.decode_op.Statement.{statement}
 use Rattle.riscu.proofs.decode.decode_op.Tie as tie
+
+funct3-requires : tie.Need-funct3-requires
+funct3-requires c κs = search needs
 
 r-type-requires : tie.Need-r-type-requires
 r-type-requires c κs = search needs
@@ -24,52 +32,49 @@ r-type-requires-6 c κs = search needs
 
 returns : tie.Need-returns
 unfolding decodedOp
-returns c = rw (c .r-type .ensures, c .before .before .match .keys1, c .before .match2 .keys1)
+returns c = rw (c .r-type .ensures, c .before .before .match .keys1, sym (c .before .before .before .funct3 .ensures) ∙ c .before .match2 .keys1)
 
 returns-2 : tie.Need-returns-2
 unfolding decodedOp
-returns-2 c = rw (c .r-type2 .ensures, c .before .before .match .keys1, c .before .match2 .keys2)
+returns-2 c = rw (c .r-type2 .ensures, c .before .before .match .keys1, sym (c .before .before .before .funct3 .ensures) ∙ c .before .match2 .keys2)
 
 returns-3 : tie.Need-returns-3
 unfolding decodedOp
-returns-3 c = rw (c .r-type3 .ensures, c .before .before .match .keys1, c .before .match2 .keys3)
+returns-3 c = let f = c .before .before .funct3 .result in let r = c .match2 .rest in simp (c .before .match .keys1, sym (c .before .before .funct3 .ensures), ne-eqb _ _ (r .1), ne-eqb _ _ (r .0 .1)) (sym (same (eqb f 5) Invalid) ∙ ap (cond (eqb f 5) Invalid) (sym (same (eqb f 7) Invalid)))
 
 returns-4 : tie.Need-returns-4
 unfolding decodedOp
-returns-4 c = let r = c .match2 .rest in simp (c .before .match .keys1, ne-eqb _ _ (r .1), ne-eqb _ _ (r .0 .1), ne-eqb _ _ (r .0 .0 .1))
+returns-4 c = rw (c .r-type3 .ensures, c .before .before .match .keys2, sym (c .before .before .before .funct3 .ensures) ∙ c .before .match3 .keys1)
 
 returns-5 : tie.Need-returns-5
 unfolding decodedOp
-returns-5 c = rw (c .r-type4 .ensures, c .before .before .match .keys2, c .before .match3 .keys1)
+returns-5 c = rw (c .r-type4 .ensures, c .before .before .match .keys2, sym (c .before .before .before .funct3 .ensures) ∙ c .before .match3 .keys2)
 
 returns-6 : tie.Need-returns-6
 unfolding decodedOp
-returns-6 c = simp (c .before .match .keys2, ne-eqb _ _ (c .match3 .rest .1))
+returns-6 c = rw (c .r-type5 .ensures, c .before .before .match .keys2, sym (c .before .before .before .funct3 .ensures) ∙ c .before .match3 .keys3)
 
 returns-7 : tie.Need-returns-7
 unfolding decodedOp
-returns-7 c = rw (c .r-type5 .ensures, c .before .before .match .keys3, c .before .match4 .keys1)
+returns-7 c = let r = c .match3 .rest in simp (c .before .match .keys2, sym (c .before .before .funct3 .ensures), ne-eqb _ _ (r .1), ne-eqb _ _ (r .0 .1), ne-eqb _ _ (r .0 .0 .1), same)
 
 returns-8 : tie.Need-returns-8
 unfolding decodedOp
-returns-8 c = simp (c .before .match .keys3, ne-eqb _ _ (c .match4 .rest .1))
+returns-8 c = rw (c .r-type6 .ensures, c .before .before .match .keys3, sym (c .before .before .before .funct3 .ensures) ∙ c .before .match4 .keys1)
 
 returns-9 : tie.Need-returns-9
 unfolding decodedOp
-returns-9 c = rw (c .r-type6 .ensures, c .before .before .match .keys4, c .before .match5 .keys1)
+returns-9 c = let r = c .match4 .rest in simp (c .before .match .keys3, sym (c .before .before .funct3 .ensures), ne-eqb _ _ (r .1), same)
 
 returns-10 : tie.Need-returns-10
 unfolding decodedOp
-returns-10 c = simp (c .before .match .keys4, ne-eqb _ _ (c .match5 .rest .1))
-
-returns-11 : tie.Need-returns-11
-unfolding decodedOp
-returns-11 c = let r = c .match .rest in simp (ne-eqb _ _ (r .1), ne-eqb _ _ (r .0 .1), ne-eqb _ _ (r .0 .0 .1), ne-eqb _ _ (r .0 .0 .0 .1))
+returns-10 c = let r = c .match .rest in simp (ne-eqb _ _ (r .1), ne-eqb _ _ (r .0 .1), ne-eqb _ _ (r .0 .0 .1), same)
 
 pub decode-op-spec : {M : Type 1} → statement M
 decode-op-spec =
     tie.close
     (tie.spec
+    funct3-requires
     r-type-requires
     r-type-requires-2
     r-type-requires-3
@@ -85,5 +90,4 @@ decode-op-spec =
     returns-7
     returns-8
     returns-9
-    returns-10
-    returns-11)
+    returns-10)
