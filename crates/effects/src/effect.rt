@@ -100,7 +100,7 @@ fn execute_sd(words: &[u64], marks: &[u8], t: SType, pc: u64, memory: u64) -> Ef
 }
 
 // The effect of an instruction at pc, with these registers and a memory of `memory` words. Each arm reads its own
-// operands, so that decoding and executing become one dispatch where they are compiled together.
+// operands, so that an instruction is dispatched once.
 pub fn effect_of(
     words: &[u64],
     marks: &[u8],

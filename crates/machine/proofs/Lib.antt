@@ -1,2 +1,3 @@
+pub mod Known
 pub mod Kept
 pub mod Turns

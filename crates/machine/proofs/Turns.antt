@@ -1,16 +1,21 @@
 -- The turns of a run: what each leaves of `runFor` is what the run still has to do.
-use mathlib.Core.Path.{_≡_, refl, sym, ap, _∙_, subst}
+use mathlib.Core.Path.{_≡_, sym, ap, _∙_}
 use mathlib.Core.List.{List}
 use Prim.Native.Nat.{ℕ, suc, _+_, _-_, _≤_, _<_}
 use native.Mathlib.Omega.{arith}
-use lib.ListN.{length, getD}
+use lib.ListN.{length}
 use lib.Seq.{getD-set-other}
+use Rattle.riscu.specs.Decoding.{decoded}
+use Rattle.riscu.specs.declared.instruction.Decoded.{Decoded}
+use Rattle.answers.specs.declared.error.ExecutorError.{ExecutorError}
 use Rattle.answers.specs.declared.outcome.Outcome.{Outcome}
+use Rattle.answers.specs.declared.outcome.Outcome.the-variants.{Failed}
 use Rattle.answers.specs.declared.outcome.Progress.the-variants.{Running, Ended}
 use Rattle.rows.specs.Rows.{Row, row, pcOf, depthOf, limitOf, setLimit}
-use Rattle.reading.specs.Reading.{Reached}
-use Rattle.machine.specs.Steps.{advanced}
-use Rattle.machine.specs.Runs.{Finished, stops, continued, runFor, runOf}
+use Rattle.reading.specs.Reading.{Reached, ends}
+use Rattle.machine.specs.Steps.{fetched, deeper, executed, interpreted, stepped, finished, whole, advanced}
+use Rattle.machine.specs.declared.step.Fetched.the-variants.{Word, Refused}
+use Rattle.machine.specs.Runs.{stops, continued, runFor, runOf}
 use Rattle.machine.proofs.Kept.{advanced-depth}
 
 -- at the limit
@@ -44,6 +49,16 @@ module _ (limit : ℕ) (tape : List ℕ) (used : ℕ) (r : Row) (x : Reached) (h
   pub stopped : (o : Outcome) → x .moved .progress ≡ Ended o → stops (Ended o) (pcOf r) (x .moved .used) (x .row) ≡ runFor (limit - depthOf r) tape used r
   unfolding continued
   stopped o p = sym (before-limit limit tape used r h ∙ rw (← e, p))
+
+-- an instruction that was fetched, by what its word decodes to
+pub by-word : (tape : List ℕ) (used : ℕ) (r after : Row) (word : ℕ) (d : Decoded) → Word word ≡ fetched (deeper r) → d ≡ decoded word → after ≡ deeper r → whole (executed d tape used after) ≡ advanced tape used r
+unfolding advanced stepped interpreted
+by-word tape used r after word d f e a = rw (a, e, ← f)
+
+-- one that could not be fetched
+pub by-refusal : (tape : List ℕ) (used : ℕ) (r : Row) (error : ExecutorError) → Refused error ≡ fetched (deeper r) → ends (Failed error) used (deeper r) ≡ advanced tape used r
+unfolding advanced stepped interpreted finished
+by-refusal tape used r error f = rw (← f)
 
 -- a run starts with its limit grown
 pub started : (step : ℕ) (tape : List ℕ) (used : ℕ) (r : Row) →

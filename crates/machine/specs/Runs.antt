@@ -15,8 +15,11 @@ pub record Finished : Type 0 where
 abbrev pub finishedAs : List ℕ → List ℕ → Ran → Finished
 finishedAs words marks ran = record { row = row words marks; ran = ran }
 
+abbrev pub answerOf : Progress → ℕ → ℕ → Ran
+answerOf p pc used = record { progress = p; pc = pc; used = used }
+
 abbrev pub stops : Progress → ℕ → ℕ → Row → Finished
-stops p pc used r = record { row = r; ran = record { progress = p; pc = pc; used = used } }
+stops p pc used r = record { row = r; ran = answerOf p pc used }
 
 -- the run goes on, or ends with the pc before the instruction that ended it
 unfoldable pub continued : (ℕ → Row → Finished) → ℕ → Progress → ℕ → Row → Finished

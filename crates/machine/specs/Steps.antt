@@ -59,6 +59,9 @@ finished step.Running used r = goes used r
 finished (step.Write buffer size) used r = goes used (completed size r)
 finished (step.Ended o) used r = ends o used r
 
+abbrev pub whole : Called → Reached
+whole x = finished (x .stepped .step) (x .stepped .used) (x .row)
+
 -- one instruction, whole
 unfoldable pub advanced : List ℕ → ℕ → Row → Reached
-advanced tape used r = let x = stepped tape used r in finished (x .stepped .step) (x .stepped .used) (x .row)
+advanced tape used r = whole (stepped tape used r)

@@ -5,7 +5,7 @@ ghost use Rattle.riscu.specs.Registers.{RegistersIn};
 ghost use Rattle.rows.specs.Rows.{row, Shape, depthOf};
 ghost use Rattle.reading.specs.Reading.{reached};
 ghost use Rattle.calls.specs.Calls.{called};
-ghost use Rattle.machine.specs.Steps.{halfAt, fetched, followed, executed, interpreted, stepped as steppedOf, finished, advanced};
+ghost use Rattle.machine.specs.Steps.{halfAt, fetched, followed, executed, finished, deeper, whole};
 use answers::error::ExecutorError;
 use answers::error::NotSupportedReason;
 use answers::outcome::Outcome;
@@ -16,7 +16,6 @@ use calls::system::complete_write;
 use calls::system::execute_ecall;
 use effects::value::Value;
 use reading::Moved;
-use riscu::decode::decode;
 use riscu::instruction::Decoded;
 use rows::execute::Next;
 use rows::execute::execute;
@@ -99,26 +98,13 @@ fn execute_decoded(
     }
 }
 
-fn interpret(words: &mut [u64], marks: &mut [u8], tape: &[u64], used: usize) -> Stepped
-    requires { ⌜ Shape (now words) (now marks) ⌝ }
-    ensures { λ r. ⌜ called (now (words .exit)) (now (marks .exit)) r ≡ interpreted (fetched (row (now (words .entry)) (now (marks .entry)))) (now (tape .entry)) used (row (now (words .entry)) (now (marks .entry))) ⌝ }
-{
-    match fetch(words, marks) {
-        Fetched::Word(x) => execute_decoded(words, marks, decode(x), tape, used),
-        Fetched::Refused(error) => Stepped {
-            step: Step::Ended(Outcome::Failed(error)),
-            used,
-        },
-    }
-}
-
-// One instruction; a write call is handed out for the caller to complete.
-pub(crate) fn step(words: &mut [u64], marks: &mut [u8], tape: &[u64], used: usize) -> Stepped
+// Fetches the next instruction, which counts as executed.
+pub(crate) fn fetch_next(words: &mut [u64], marks: &[u8]) -> Fetched
     requires { ⌜ Shape (now words) (now marks) ⌝ ∗ ⌜ depthOf (row (now words) (now marks)) + 1 < 2 ^ 64 ⌝ }
-    ensures { λ r. ⌜ called (now (words .exit)) (now (marks .exit)) r ≡ steppedOf (now (tape .entry)) used (row (now (words .entry)) (now (marks .entry))) ⌝ }
+    ensures { λ r. ⌜ r ≡ fetched (deeper (row (now (words .entry)) (now (marks .entry)))) ⌝ ∗ ⌜ row (now (words .exit)) (now (marks .entry)) ≡ deeper (row (now (words .entry)) (now (marks .entry))) ⌝ }
 {
     words[DEPTH] = words[DEPTH] + 1;
-    interpret(words, marks, tape, used)
+    fetch(words, marks)
 }
 
 fn finish(words: &mut [u64], marks: &mut [u8], step: Step, used: usize) -> Moved
@@ -144,12 +130,18 @@ fn finish(words: &mut [u64], marks: &mut [u8], step: Step, used: usize) -> Moved
     }
 }
 
-// One instruction, whole: the bytes of a write call go nowhere.
-pub(crate) fn advance(words: &mut [u64], marks: &mut [u8], tape: &[u64], used: usize) -> Moved
-    requires { ⌜ Shape (now words) (now marks) ⌝ ∗ ⌜ depthOf (row (now words) (now marks)) + 1 < 2 ^ 64 ⌝ }
-    ensures { λ r. ⌜ reached (now (words .exit)) (now (marks .exit)) r ≡ advanced (now (tape .entry)) used (row (now (words .entry)) (now (marks .entry))) ⌝ }
+// An instruction, whole: the bytes of a write call go nowhere.
+pub(crate) fn advance(
+    words: &mut [u64],
+    marks: &mut [u8],
+    decoded: Decoded,
+    tape: &[u64],
+    used: usize,
+) -> Moved
+    requires { ⌜ Shape (now words) (now marks) ⌝ ∗ ⌜ RegistersIn decoded ⌝ }
+    ensures { λ r. ⌜ reached (now (words .exit)) (now (marks .exit)) r ≡ whole (executed decoded (now (tape .entry)) used (row (now (words .entry)) (now (marks .entry)))) ⌝ }
 {
-    let stepped = step(words, marks, tape, used);
+    let stepped = execute_decoded(words, marks, decoded, tape, used);
     let at = stepped.used;
     let came_to = stepped.step;
     finish(words, marks, came_to, at)

@@ -1,11 +1,9 @@
 use borrow.Author.Needs.{needs}
-use mathlib.Core.Path.{ap, _∙_}
-use Rattle.machine.specs.Steps.{advanced, finished}
 use Rattle.machine.proofs.step.advance.Statement.{statement}
 use Rattle.machine.proofs.step.advance.Tie as tie
 
-step-requires : tie.Need-step-requires
-step-requires c κs = search needs
+execute-decoded-requires : tie.Need-execute-decoded-requires
+execute-decoded-requires c κs = search needs
 
 finish-requires : tie.Need-finish-requires
 finish-requires c κs = search needs
@@ -17,8 +15,8 @@ same-length-2 : tie.Need-same-length-2
 same-length-2 c = search needs
 
 returns : tie.Need-returns
-unfolding advanced
-returns c = rw (← c .before .before .before .before .before .before .before .before .before .before .before .step .ensures) (c .before .before .before .before .finish .ensures)
+returns c = rw (← c .before .before .before .before .before .before .before .before .before .before .before .execute-decoded .ensures) (c .before .before .before .before .finish .ensures)
 
 pub advance-spec : {M : Type 1} → statement M
-advance-spec = tie.close (tie.spec step-requires finish-requires same-length same-length-2 returns)
+advance-spec =
+    tie.close (tie.spec execute-decoded-requires finish-requires same-length same-length-2 returns)
