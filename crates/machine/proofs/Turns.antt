@@ -1,5 +1,5 @@
 -- The turns of a run: what each leaves of `runFor` is what the run still has to do.
-use mathlib.Core.Path.{_≡_, sym, ap, _∙_}
+use mathlib.Core.Path.{_≡_, refl, sym, ap, _∙_}
 use mathlib.Core.List.{List}
 use Prim.Native.Nat.{ℕ, suc, _+_, _-_, _≤_, _<_}
 use native.Mathlib.Omega.{arith}
@@ -7,6 +7,8 @@ use lib.ListN.{length}
 use lib.Seq.{getD-set-other}
 use Rattle.riscu.specs.Decoding.{decoded}
 use Rattle.riscu.specs.declared.instruction.Decoded.{Decoded}
+use Rattle.riscu.specs.declared.instruction.Decoded.the-variants.{Invalid}
+use Rattle.answers.specs.declared.error.ExecutorError.the-variants.{InvalidInstructionEncoding}
 use Rattle.answers.specs.declared.error.ExecutorError.{ExecutorError}
 use Rattle.answers.specs.declared.outcome.Outcome.{Outcome}
 use Rattle.answers.specs.declared.outcome.Outcome.the-variants.{Failed}
@@ -50,10 +52,15 @@ module _ (limit : ℕ) (tape : List ℕ) (used : ℕ) (r : Row) (x : Reached) (h
   unfolding continued
   stopped o p = sym (before-limit limit tape used r h ∙ rw (← e, p))
 
--- an instruction that was fetched, by what its word decodes to
+-- an instruction that was fetched and decoded
 pub by-word : (tape : List ℕ) (used : ℕ) (r after : Row) (word : ℕ) (d : Decoded) → Word word ≡ fetched (deeper r) → d ≡ decoded word → after ≡ deeper r → whole (executed d tape used after) ≡ advanced tape used r
 unfolding advanced stepped interpreted
 by-word tape used r after word d f e a = rw (a, e, ← f)
+
+-- one that could not be decoded
+pub by-invalid : (tape : List ℕ) (used : ℕ) (r : Row) (word : ℕ) → Word word ≡ fetched (deeper r) → Invalid ≡ decoded word → ends (Failed InvalidInstructionEncoding) used (deeper r) ≡ advanced tape used r
+unfolding executed finished
+by-invalid tape used r word f e = by-word tape used r (deeper r) word Invalid f e refl
 
 -- one that could not be fetched
 pub by-refusal : (tape : List ℕ) (used : ℕ) (r : Row) (error : ExecutorError) → Refused error ≡ fetched (deeper r) → ends (Failed error) used (deeper r) ≡ advanced tape used r

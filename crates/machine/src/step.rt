@@ -1,7 +1,8 @@
 // One instruction of an executor.
 ghost use mathlib.Core.Path.{_≡_};
 ghost use Prim.Native.Nat.{_+_, _<_, _^_};
-ghost use Rattle.riscu.specs.Registers.{RegistersIn};
+ghost use Rattle.riscu.specs.Registers.{Registers};
+ghost use Rattle.riscu.specs.declared.instruction.Decoded.the-variants.{Valid};
 ghost use Rattle.rows.specs.Rows.{row, Shape, depthOf};
 ghost use Rattle.reading.specs.Reading.{reached};
 ghost use Rattle.calls.specs.Calls.{called};
@@ -16,7 +17,7 @@ use calls::system::complete_write;
 use calls::system::execute_ecall;
 use effects::value::Value;
 use reading::Moved;
-use riscu::instruction::Decoded;
+use riscu::instruction::Instruction;
 use rows::execute::Next;
 use rows::execute::execute;
 use rows::row::DEPTH;
@@ -76,28 +77,6 @@ fn follow(words: &mut [u64], marks: &mut [u8], next: Next, tape: &[u64], used: u
     }
 }
 
-fn execute_decoded(
-    words: &mut [u64],
-    marks: &mut [u8],
-    decoded: Decoded,
-    tape: &[u64],
-    used: usize,
-) -> Stepped
-    requires { ⌜ Shape (now words) (now marks) ⌝ ∗ ⌜ RegistersIn decoded ⌝ }
-    ensures { λ r. ⌜ called (now (words .exit)) (now (marks .exit)) r ≡ executed decoded (now (tape .entry)) used (row (now (words .entry)) (now (marks .entry))) ⌝ }
-{
-    match decoded {
-        Decoded::Valid(instruction) => {
-            let next = execute(words, marks, instruction);
-            follow(words, marks, next, tape, used)
-        }
-        Decoded::Invalid => Stepped {
-            step: Step::Ended(Outcome::Failed(ExecutorError::InvalidInstructionEncoding)),
-            used,
-        },
-    }
-}
-
 // Fetches the next instruction, which counts as executed.
 pub(crate) fn fetch_next(words: &mut [u64], marks: &[u8]) -> Fetched
     requires { ⌜ Shape (now words) (now marks) ⌝ ∗ ⌜ depthOf (row (now words) (now marks)) + 1 < 2 ^ 64 ⌝ }
@@ -134,14 +113,15 @@ fn finish(words: &mut [u64], marks: &mut [u8], step: Step, used: usize) -> Moved
 pub(crate) fn advance(
     words: &mut [u64],
     marks: &mut [u8],
-    decoded: Decoded,
+    instruction: Instruction,
     tape: &[u64],
     used: usize,
 ) -> Moved
-    requires { ⌜ Shape (now words) (now marks) ⌝ ∗ ⌜ RegistersIn decoded ⌝ }
-    ensures { λ r. ⌜ reached (now (words .exit)) (now (marks .exit)) r ≡ whole (executed decoded (now (tape .entry)) used (row (now (words .entry)) (now (marks .entry)))) ⌝ }
+    requires { ⌜ Shape (now words) (now marks) ⌝ ∗ ⌜ Registers instruction ⌝ }
+    ensures { λ r. ⌜ reached (now (words .exit)) (now (marks .exit)) r ≡ whole (executed (Valid instruction) (now (tape .entry)) used (row (now (words .entry)) (now (marks .entry)))) ⌝ }
 {
-    let stepped = execute_decoded(words, marks, decoded, tape, used);
+    let next = execute(words, marks, instruction);
+    let stepped = follow(words, marks, next, tape, used);
     let at = stepped.used;
     let came_to = stepped.step;
     finish(words, marks, came_to, at)

@@ -1,9 +1,13 @@
 use borrow.Author.Needs.{needs}
+use Rattle.machine.specs.Steps.{executed}
 use Rattle.machine.proofs.step.advance.Statement.{statement}
 use Rattle.machine.proofs.step.advance.Tie as tie
 
-execute-decoded-requires : tie.Need-execute-decoded-requires
-execute-decoded-requires c κs = search needs
+execute-requires : tie.Need-execute-requires
+execute-requires c κs = search needs
+
+follow-requires : tie.Need-follow-requires
+follow-requires c κs = search needs
 
 finish-requires : tie.Need-finish-requires
 finish-requires c κs = search needs
@@ -15,8 +19,10 @@ same-length-2 : tie.Need-same-length-2
 same-length-2 c = search needs
 
 returns : tie.Need-returns
-returns c = rw (← c .before .before .before .before .before .before .before .before .before .before .before .execute-decoded .ensures) (c .before .before .before .before .finish .ensures)
+unfolding executed
+returns c = rw (← c .before .before .before .before .before .before .before .before .before .before .before .before .before .before .before .before .before .before .execute .ensures .0, ← c .before .before .before .before .before .before .before .before .before .before .before .before .before .before .before .before .before .before .execute .ensures .1, ← c .before .before .before .before .before .before .before .before .before .before .before .follow .ensures) (c .before .before .before .before .finish .ensures)
 
 pub advance-spec : {M : Type 1} → statement M
 advance-spec =
-    tie.close (tie.spec execute-decoded-requires finish-requires same-length same-length-2 returns)
+    tie.close
+    (tie.spec execute-requires follow-requires finish-requires same-length same-length-2 returns)
