@@ -81,17 +81,23 @@ fn tape() -> Vec<u64> {
     (0..1 << 17).map(|_| word()).collect()
 }
 
-/// The best of up to five times, of which those after the first second are left out.
-fn best(mut time: impl FnMut() -> Duration) -> Duration {
+/// The best of each of up to five times that are taken together; those after the first second are left out.
+fn best_of_each<const N: usize>(mut times: impl FnMut() -> [Duration; N]) -> [Duration; N] {
     let started = clock::now();
-    let mut best = time();
+    let mut best = times();
     for _ in 1..5 {
         if (clock::now() - started) > Duration::from_secs(1) {
             break;
         }
-        best = best.min(time());
+        for (best, time) in best.iter_mut().zip(times()) {
+            *best = time.min(*best);
+        }
     }
     best
+}
+
+fn best(mut time: impl FnMut() -> Duration) -> Duration {
+    best_of_each(|| [time()])[0]
 }
 
 fn ratio(original: Duration, proved: Duration) -> f64 {
@@ -170,8 +176,8 @@ fn phases() {
     println!("| memory | states | filling | running | scoring | selecting (Rust only) |");
     println!("|---|---|---|---|---|---|");
     for case in cases().into_iter().filter(|case| case.rounds == 1) {
-        let original = original::phases(case, &tape);
-        let proved = proved::phases(case, &tape);
+        let original = best_of_each(|| original::phases(case, &tape));
+        let proved = best_of_each(|| proved::phases(case, &tape));
         let both = |i: usize| {
             let (a, b) = (milliseconds(original[i]), milliseconds(proved[i]));
             format!("{:.3} / {:.3}", a, b)
