@@ -1,7 +1,8 @@
 //! Times libtavvinur.a against the Rust, on the same inputs. `host/bench/run` builds and runs it.
 //!
 //! The Rust's text is the oracle's, by links; only the hooks (`engine/rarity_simulation/view.rs`) are empty here, since the original
-//! has none. Memory is touched before a clock starts; times are processor time, and the best of several counts.
+//! has none. What is lent to Tavvinur is touched before a clock starts; the Rust allocates its states while the clock runs, since its search
+//! does. Times are processor time, and the best of several counts.
 
 // the copied files keep parts that only the original program uses
 #![allow(dead_code)]
