@@ -5,7 +5,10 @@
  *  - a pointer is aligned for its type, is not null, and points to as many elements as its length says (all of them initialised;
  *    an empty slice may point to anything that is not null and is aligned);
  *  - what a call may write (no const) overlaps nothing else that is lent to that call;
- *  - nobody else writes what is lent, or reads what a call may write, until the call returns.
+ *  - nobody else writes what is lent, or reads what a call may write, until the call returns;
+ *  - the calling thread computes with doubles as a C program does from its start: it rounds to nearest (fegetround() is
+ *    FE_TONEAREST), and MXCSR has neither denormals-are-zero set nor an exception unmasked. Rounding otherwise gives other scores,
+ *    so that a search may keep other rows.
  * All memory is the caller's. The library allocates nothing, keeps no pointer and no state between calls, writes only what is lent
  * without const, and calls nothing but memcpy and memset. Calls on different memory may run at once. A search takes 140 KiB of
  * stack, a scoring 40 KiB, a run 3 KiB, the others less than 1 KiB.

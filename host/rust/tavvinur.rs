@@ -3,6 +3,10 @@
 //!
 //! Lengths, numbers and rows may be any: the library checks them, refuses by number and then changes nothing. What it asks of its
 //! caller, that slices are what they say, references give by themselves. `docs/HOSTS.md` has the numbers and the layout of a row.
+//!
+//! One thing references do not give: the calling thread computes with doubles as a Rust program does from its start. It rounds to
+//! nearest, and MXCSR has neither denormals-are-zero set nor an exception unmasked. Rust itself takes that for granted; only foreign code
+//! that has changed it can break it. Rounding otherwise gives other scores, so that a search may keep other rows.
 
 use std::ops::Range;
 
