@@ -18,7 +18,7 @@
  *   marks: one byte for each register and memory word, 1 concrete, 0 uninitialised (whose word is 0)
  * A store of n rows has exactly n times as many words and marks, row after row.
  *
- * Numbers of answers:
+ * Numbers of answers (docs/NUMBERS.md has all numbers, those of sheets too):
  *   0  run: ended by exit with 0; search: nothing found; new_executor, score: done
  *   1  memory is no multiple of 1024 from 1024 to 1048576        5  lent lengths are not exact
  *   2  states or rows are not from 1 to 4096                     6  a length of code or data is no multiple of 8
