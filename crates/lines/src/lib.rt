@@ -1,4 +1,4 @@
-// The printed lines of an answer. For the bench program and for hosts that print the same.
+// The printed lines of an answer. For the crate report, whose output has the room that is asked for.
 ghost use mathlib.Core.Path.{_≡_};
 ghost use Prim.Native.Nat.{_+_, _*_, _≤_};
 ghost use lib.ListN.{length};
@@ -50,7 +50,7 @@ fn put_inputs(out: &mut [u8], at: usize, inputs: &[u64]) -> usize
     next
 }
 
-// Writes the lines of an answer and of its inputs to the front of `out`, and answers how many bytes they have.
+// Writes the lines of an answer and of its inputs to the front of `out`, and answers how many bytes they have. For the crate report.
 // An answer has at most 104 bytes on its line, an input 27, the used count 26.
 pub fn write_lines(answer: Answer, inputs: &[u64], out: &mut [u8]) -> usize
     requires { ⌜ 130 + 27 * length (now inputs) ≤ length (now out) ⌝ }

@@ -1,8 +1,9 @@
-// The bench program's work: from the bytes of a sheet to the printed bytes. Nothing is asked of the caller.
+// The bench program's work: from the bytes of a sheet to the printed bytes. For the programs bench and sheets; nothing is asked of the
+// caller.
 ghost use mathlib.Core.Path.{_≡_};
 ghost use mathlib.Core.List.{List, []};
-ghost use Prim.Native.Nat.{ℕ, _*_, _≤_};
-ghost use lib.ListN.{length};
+ghost use Prim.Native.Nat.{ℕ, _+_, _*_, _≤_};
+ghost use lib.ListN.{length, take};
 ghost use Rattle.lines.specs.Lines.{lines, written};
 ghost use Rattle.sheet.specs.Sheets.{parsed, benchLimits, sheetNumber};
 ghost use Rattle.sheet.specs.declared.parse.Parsed.the-variants.{Accepted};
@@ -19,11 +20,15 @@ use lines::write_lines;
 use search::answer::SearchAnswer;
 use searching::search_sheet;
 use sheet::limits::Limits;
+use sheet::limits::MOST_SHEET;
 use sheet::parse::Parsed;
 use sheet::parse::Sheet;
 use sheet::parse::SheetError;
 use sheet::parse::parse;
 use store::layout::Layout;
+
+// A buffer for a sheet has one byte more than a sheet may have, so that a longer one is seen.
+pub const SHEET_BUFFER: usize = MOST_SHEET + 1;
 
 // The most bytes that are printed: an answer, 64 inputs and the used count have 1,858.
 pub const MOST_PRINTED: usize = 2048;
@@ -33,7 +38,7 @@ const MOST_WORDS: usize = 1832;
 
 const MOST_MARKS: usize = 1280;
 
-fn report_refusal(error: SheetError, out: &mut [u8; 2048]) -> usize
+fn report_refusal(error: SheetError, out: &mut [u8; MOST_PRINTED]) -> usize
     ensures { λ r. ⌜ Printed (lines (refusedAnswer (sheetNumber error)) []) (now (out .entry)) (now (out .exit)) r ⌝ }
 {
     let answer = Answer {
@@ -60,7 +65,12 @@ fn answer_of(answer: SearchAnswer) -> Answer
 }
 
 // Prints an answer, and the inputs that it tells from the words of its store.
-fn report_answer(answer: SearchAnswer, store: Layout, words: &[u64], out: &mut [u8; 2048]) -> usize
+fn report_answer(
+    answer: SearchAnswer,
+    store: Layout,
+    words: &[u64],
+    out: &mut [u8; MOST_PRINTED],
+) -> usize
     requires { ⌜ Lent store (now words) ⌝ }
     ensures { λ r. ⌜ ((marks : List ℕ) → length marks ≡ store .rows * store .marks → Printed (answerLines answer (rowsOf store (now (words .entry)) marks)) (now (out .entry)) (now (out .exit)) r) ⌝ }
 {
@@ -71,7 +81,7 @@ fn report_answer(answer: SearchAnswer, store: Layout, words: &[u64], out: &mut [
 }
 
 // The search, on a store of just the lengths that the sheet asks for.
-fn report_search(sheet: &[u8], asked: Sheet, out: &mut [u8; 2048]) -> usize
+fn report_search(sheet: &[u8], asked: Sheet, out: &mut [u8; MOST_PRINTED]) -> usize
     requires { ⌜ parsed benchLimits (now sheet) ≡ Accepted asked ⌝ }
     ensures { λ r. ⌜ Printed (searchPrinted (now (sheet .entry)) asked) (now (out .entry)) (now (out .exit)) r ⌝ }
 {
@@ -89,13 +99,28 @@ fn report_search(sheet: &[u8], asked: Sheet, out: &mut [u8; 2048]) -> usize
     report_answer(answer, store, &words[0..n], out)
 }
 
-// Runs the search that a sheet asks for, writes what is to be printed to the front of `out`, and answers how many bytes that is.
-pub fn report(sheet: &[u8], out: &mut [u8; 2048]) -> usize
-    ensures { λ r. ⌜ r ≡ length (printed (now (sheet .entry))) ⌝ ∗ ⌜ now (out .exit) ≡ written (printed (now (sheet .entry))) (now (out .entry)) ⌝ ∗ ⌜ r ≤ 2048 ⌝ }
+fn report_sheet(sheet: &[u8], out: &mut [u8; MOST_PRINTED]) -> usize
+    ensures { λ r. ⌜ Printed (printed (now (sheet .entry))) (now (out .entry)) (now (out .exit)) r ⌝ }
 {
     let parsed = parse(sheet, Limits::bench());
     match parsed {
         Parsed::Refused(error) => report_refusal(error, out),
         Parsed::Accepted(asked) => report_search(sheet, asked, out),
+    }
+}
+
+// Runs the search that a sheet asks for, writes what is to be printed to the front of `out`, and answers how many bytes that is.
+// The sheet is the first n bytes of the buffer; a count above the buffer means all of it.
+pub fn report(sheet: &[u8; SHEET_BUFFER], n: usize, out: &mut [u8; MOST_PRINTED]) -> usize
+    ensures { λ r. ⌜ r ≡ length (printed (take n (now (sheet .entry)))) ⌝ }
+    ensures { λ _. ⌜ now (out .exit) ≡ written (printed (take n (now (sheet .entry)))) (now (out .entry)) ⌝ }
+    ensures { λ r. ⌜ r ≤ 2048 ⌝ }
+    ensures { λ _. ⌜ length (now (sheet .entry)) ≡ benchLimits .bytes + 1 ⌝ }
+{
+    let buffer: &[u8] = sheet;
+    if n < buffer.len() {
+        report_sheet(&buffer[..n], out)
+    } else {
+        report_sheet(buffer, out)
     }
 }

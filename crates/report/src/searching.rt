@@ -6,11 +6,12 @@ ghost use Rattle.sheet.specs.Sheets.{parsed, benchLimits, imageOf, tapeOf, With
 ghost use Rattle.sheet.specs.declared.parse.Parsed.the-variants.{Accepted};
 use search::answer::SearchAnswer;
 use search::search_for_bugs;
+use sheet::limits::MOST_SHEET;
 use sheet::parse::Sheet;
 use sheet::tape::read_words;
 
 // The words of the longest sheet.
-const MOST_TAPE: usize = 7680;
+const MOST_TAPE: usize = MOST_SHEET / 8;
 
 // The search with this tape.
 fn search_with(

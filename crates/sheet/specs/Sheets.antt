@@ -134,12 +134,9 @@ sheetNumber PartPastEnd = 52
 sheetNumber UnknownMean = 53
 sheetNumber AboveLimit = 54
 
--- the bench program's limits, and those of a host that has none of its own
+-- the bench program's limits
 abbrev pub benchLimits : Limits
 benchLimits = record { bytes = 61440; states = 8; memory = 1024; log = 64 }
-
-abbrev pub hostLimits : Limits
-hostLimits = record { bytes = 2 ^ 64 - 1; states = 2 ^ 64 - 1; memory = 2 ^ 64 - 1; log = 2 ^ 64 - 1 }
 
 -- ---- the parts of a sheet
 

@@ -179,7 +179,7 @@ fn parse_fields(limits: Limits, n: u64, f: Fields) -> Parsed
     Parsed::Accepted(sheet_of(f))
 }
 
-// What some bytes are as a sheet.
+// What some bytes are as a sheet. For the crate report.
 pub fn parse(sheet: &[u8], limits: Limits) -> Parsed
     ensures { λ r. ⌜ r ≡ parsed limits (now (sheet .entry)) ⌝ }
 {

@@ -5,7 +5,8 @@ ghost use lib.ListN.{length};
 ghost use Rattle.sheet.specs.Sheets.{wordsOf};
 use loader::word_at;
 
-// Reads so many words, as the lent tape is long, from the front of some bytes, little-endian.
+// Reads so many words, as the lent tape is long, from the front of some bytes, little-endian. For the crate report, which has it from
+// `parse` that they lie within the sheet.
 pub fn read_words(bytes: &[u8], tape: &mut [u64])
     requires { ⌜ 8 * length (now tape) ≤ length (now bytes) ⌝ }
     ensures { λ _. ⌜ now (tape .exit) ≡ wordsOf (length (now (tape .entry))) (now (bytes .entry)) ⌝ }

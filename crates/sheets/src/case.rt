@@ -16,8 +16,7 @@ fn replay_sheet(numbers: &[u64], layout: Layout) -> bool
 {
     let sheet = sheet_of(numbers, layout.stored, layout.length);
     let mut out = [JUNK_MARK; MOST_PRINTED];
-    let length = layout.length;
-    let count = report::report(&sheet[..length], &mut out);
+    let count = report::report(&sheet, layout.length, &mut out);
     count == layout.printed && is_printed(numbers, layout, &out)
 }
 

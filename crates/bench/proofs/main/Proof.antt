@@ -12,12 +12,6 @@ slice-aggregate-read-full c = search needs
 read-full-requires : tie.Need-read-full-requires
 read-full-requires c κs = search needs
 
-array-share-prefix-sheet : tie.Need-array-share-prefix-sheet
-array-share-prefix-sheet c = search needs
-
-slice-aggregate-report : tie.Need-slice-aggregate-report
-slice-aggregate-report c = search needs
-
 report-requires : tie.Need-report-requires
 report-requires c κs = search needs
 
@@ -41,8 +35,6 @@ main-spec =
     (tie.spec
     slice-aggregate-read-full
     read-full-requires
-    array-share-prefix-sheet
-    slice-aggregate-report
     report-requires
     array-share-prefix-out
     slice-aggregate-write-all

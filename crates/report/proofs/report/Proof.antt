@@ -1,53 +1,39 @@
+use mathlib.Core.Path.{sym, ap}
+use native.Mathlib.Omega.{arith}
+use lib.Seq.{length-take-le, take-all}
 use borrow.Author.Needs.{needs}
-use Rattle.report.proofs.Texts.{printed-as, sheet-is, refused-printed, accepted-printed}
+use Rattle.report.specs.Reports.{printed}
+use Rattle.report.proofs.Texts.{printed-as}
 use Rattle.report.proofs.report.Statement.{statement}
 use Rattle.report.proofs.report.Tie as tie
 
-bench-requires : tie.Need-bench-requires
-bench-requires c κs = search needs
+slice-aggregate-report-sheet : tie.Need-slice-aggregate-report-sheet
+slice-aggregate-report-sheet c = sym (length-take-le _ _ (omega arith))
 
-parse-requires : tie.Need-parse-requires
-parse-requires c κs = search needs
+report-sheet-requires : tie.Need-report-sheet-requires
+report-sheet-requires c κs = search needs
 
-enum-known-parsed : tie.Need-enum-known-parsed
-enum-known-parsed c = search needs
-
-report-refusal-requires : tie.Need-report-refusal-requires
-report-refusal-requires c κs = search needs
-
-enum-known-parsed-2 : tie.Need-enum-known-parsed-2
-enum-known-parsed-2 c = search needs
-
-report-search-requires : tie.Need-report-search-requires
-report-search-requires c κs =
-    let parse = c .before .before .before .before in
-    sheet-is (parse .before .before .before .args .sheet .now) (parse .before .bench .ensures) (parse .parse .ensures) (c .before .before .parsed2 .given .1)
+report-sheet-requires-2 : tie.Need-report-sheet-requires-2
+report-sheet-requires-2 c κs = search needs
 
 returns : tie.Need-returns
 returns c =
-    let parse = c .before .before .before .before .before in
-    let sheet = parse .before .before .before .args .sheet .now in
-    let text = refused-printed sheet (parse .before .bench .ensures) (parse .parse .ensures) (c .before .before .before .parsed .given .1) in
-    let p = printed-as text (c .report-refusal .ensures) in
-    (p .size, (p .bytes, p .room))
+    let p = c .report-sheet .ensures in
+    (p .size, (p .bytes, (p .room, omega arith)))
 
 returns-2 : tie.Need-returns-2
 returns-2 c =
-    let parse = c .before .before .before .before .before in
-    let sheet = parse .before .before .before .args .sheet .now in
-    let text = accepted-printed sheet (parse .before .bench .ensures) (parse .parse .ensures) (c .before .before .before .parsed2 .given .1) in
-    let p = printed-as text (c .report-search .ensures) in
-    (p .size, (p .bytes, p .room))
+    let start = c .before .before .before .before in
+    let whole = take-all (start .args .n) (start .args .sheet .now) (c .before .before .if1 .left) in
+    let p = printed-as (ap printed (sym whole)) (c .report-sheet2 .ensures) in
+    (p .size, (p .bytes, (p .room, omega arith)))
 
 pub report-spec : {M : Type 1} → statement M
 report-spec =
     tie.close
     (tie.spec
-    bench-requires
-    parse-requires
-    enum-known-parsed
-    report-refusal-requires
-    enum-known-parsed-2
-    report-search-requires
+    slice-aggregate-report-sheet
+    report-sheet-requires
+    report-sheet-requires-2
     returns
     returns-2)
