@@ -1,4 +1,3 @@
 pub mod Writing
 pub mod Digits
 pub mod Inputs
-pub mod Examples
