@@ -1,4 +1,4 @@
-"""What the tools that make lists share: lines of numbers, the digest, and the command line."""
+"""What the tools that make lists share: lines of numbers, lines that are wrong on purpose, the digest, and the command line."""
 import argparse
 import os
 import sys
@@ -41,6 +41,59 @@ def check_names(names):
     need(len(set(names)) == len(names), "two cases have one name")
 
 
+# --- lines that are wrong on purpose ---
+
+# What such a line begins with. The program that replays the list must find that it disagrees.
+WRONG = "!"
+WRONG_LINES = f"""A line that begins with {WRONG} is wrong on purpose: what follows is a line of the list with one thing in it changed, which its name
+tells. The program that replays the list must find that it disagrees."""
+
+
+def is_right(line):
+    return not line.startswith(WRONG)
+
+
+def numbers_of(line):
+    return [int(text, 16) for text in line.split()[1:]]
+
+
+def first_of(lines, fits):
+    """The numbers of the first line that fits."""
+    found = next((numbers for numbers in map(numbers_of, lines) if fits(numbers)), None)
+    need(found is not None, "no line fits a wrong one")
+    return found
+
+
+def wrong_line(name, numbers, changes):
+    """The line of these numbers with other numbers in some columns."""
+    changed = [changes.get(column, number) for column, number in enumerate(numbers)]
+    need(changed != numbers, f"nothing is wrong with {name}")
+    return WRONG + line_of(name, changed)
+
+
+def with_one_more(name, numbers, column):
+    return wrong_line(name, numbers, {column: numbers[column] + 1 & MASK})
+
+
+def malformed_lines(numbers):
+    """Lines that are not as a line is written, or have a number too few or too many."""
+    yield WRONG + line_of("cut-short", numbers[:-1])
+    yield WRONG + line_of("a-number-more", [*numbers, 0])
+    texts = [f"{number:x}" for number in numbers]
+    lettered = next(column for column, text in enumerate(texts) if not text.isdecimal())
+    for name, text in (
+        ("no-digit", texts[lettered] + "g"),
+        ("capital-digits", texts[lettered].upper()),
+        ("no-number", " " + texts[lettered]),
+        ("seventeen-digits", texts[lettered].zfill(17)),
+    ):
+        yield WRONG + " ".join([name, *texts[:lettered], text, *texts[lettered + 1 :]]) + "\n"
+    yield WRONG + line_of("", numbers)
+
+
+# --- the command line ---
+
+
 def parser_of(description, crate, seed):
     """The options that all these tools have."""
     parser = argparse.ArgumentParser(description=description, formatter_class=argparse.RawDescriptionHelpFormatter)
@@ -48,10 +101,27 @@ def parser_of(description, crate, seed):
     parser.add_argument("--out", default=stored, metavar="FILE", help=f"the list (crates/{crate}/data/cases)")
     parser.add_argument("--seed", type=int, default=seed, help=f"of the choices ({seed})")
     parser.add_argument("--check", action="store_true", help="write nothing; say whether the stored list is this one")
+    parser.add_argument("--wrong", action="store_true", help="take the right lines from the stored list, and make the wrong ones from them")
     return parser
 
 
-def finish(options, text):
+def with_wrong(right, wrong_lines):
+    """The text of a list: the right lines, and those that are wrong on purpose."""
+    wrong = list(wrong_lines(right.splitlines(keepends=True)))
+    need(len(set(wrong)) == len(wrong), "two lines are wrong in the same way")
+    print(f"{len(wrong)} lines that are wrong on purpose")
+    return right + "".join(wrong)
+
+
+def stored_right(path):
+    with open(path) as stored:
+        return "".join(filter(is_right, stored))
+
+
+def finish(options, make_right, wrong_lines):
+    """Makes the list, and writes it or compares it with the stored one."""
+    right = stored_right(options.out) if options.wrong else make_right(options.seed)
+    text = with_wrong(right, wrong_lines)
     if options.check:
         with open(options.out) as stored:
             need(stored.read() == text, "the stored list is another")

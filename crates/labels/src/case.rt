@@ -45,7 +45,7 @@ fn replay_runs(numbers: &[u64], layout: Layout, words: &mut [u64], marks: &mut [
     }
 }
 
-pub fn judge(numbers: &[u64]) -> Judged {
+pub(crate) fn judge(numbers: &[u64]) -> Judged {
     let layout = layout_of(numbers);
     if !is_whole(numbers, layout) {
         return disagrees(0);

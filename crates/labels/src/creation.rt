@@ -53,7 +53,12 @@ fn create(
 }
 
 // Whether the creation of the line has the line's number and leaves what the line says.
-pub fn replay_creation(numbers: &[u64], layout: Layout, words: &mut [u64], marks: &mut [u8]) -> bool
+pub(crate) fn replay_creation(
+    numbers: &[u64],
+    layout: Layout,
+    words: &mut [u64],
+    marks: &mut [u8],
+) -> bool
     requires { ⌜ (layout .«code_length» ≤ 512) × (layout .«data_length» ≤ 512) × (layout .«data» ≤ 1000) ⌝ }
 {
     let sizes = sizes_at(numbers, SIZES, words, marks);

@@ -6,13 +6,13 @@ use lists::columns::length_at;
 use lists::columns::words_of;
 
 // The columns of a line's start; the sizes are the first.
-pub const SIZES: usize = 0;
+pub(crate) const SIZES: usize = 0;
 
-pub const CODE_ADDRESS: usize = 4;
+pub(crate) const CODE_ADDRESS: usize = 4;
 
 const CODE_LENGTH: usize = 5;
 
-pub const DATA_ADDRESS: usize = 6;
+pub(crate) const DATA_ADDRESS: usize = 6;
 
 const DATA_LENGTH: usize = 7;
 
@@ -20,32 +20,32 @@ const TAPE_WORDS: usize = 8;
 
 const RUNS: usize = 9;
 
-pub const NUMBER: usize = 10;
+pub(crate) const NUMBER: usize = 10;
 
-pub const DIGEST: usize = 11;
+pub(crate) const DIGEST: usize = 11;
 
-pub const CODE: usize = 12;
+pub(crate) const CODE: usize = 12;
 
 // How many numbers a run has.
-pub const RUN_COLUMNS: usize = 13;
+pub(crate) const RUN_COLUMNS: usize = 13;
 
 // The most that a line has.
-pub const MOST_NUMBERS: usize = 192;
+pub(crate) const MOST_NUMBERS: usize = 192;
 
 const MOST_RUNS: usize = 3;
 
-pub struct Layout {
+pub(crate) struct Layout {
     // in bytes
-    pub code_length: usize,
-    pub data_length: usize,
+    pub(crate) code_length: usize,
+    pub(crate) data_length: usize,
     // where the words of the data, of the tape and of the first run begin
-    pub data: usize,
-    pub tape: usize,
-    pub runs: usize,
-    pub run_count: usize,
+    pub(crate) data: usize,
+    pub(crate) tape: usize,
+    pub(crate) runs: usize,
+    pub(crate) run_count: usize,
 }
 
-pub fn layout_of(numbers: &[u64]) -> Layout
+pub(crate) fn layout_of(numbers: &[u64]) -> Layout
     ensures { λ r. ⌜ (r .«code_length» ≤ 512) × (r .«data_length» ≤ 512) × (r .«run_count» ≤ 3) × (r .«data» ≤ 1000) × (r .runs ≤ 1000) ⌝ }
 {
     let code_length = length_at(numbers, CODE_LENGTH, MOST_BYTES);
@@ -63,7 +63,7 @@ pub fn layout_of(numbers: &[u64]) -> Layout
 }
 
 // Whether the line has the lengths that it says, and just so many numbers.
-pub fn is_whole(numbers: &[u64], layout: Layout) -> bool
+pub(crate) fn is_whole(numbers: &[u64], layout: Layout) -> bool
     requires { ⌜ (layout .«run_count» ≤ 3) × (layout .runs ≤ 1000) ⌝ }
 {
     is_length(numbers, CODE_LENGTH, layout.code_length)

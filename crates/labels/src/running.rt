@@ -50,9 +50,9 @@ struct Made {
     answer: Answer,
 }
 
-pub struct Replayed {
-    pub agrees: bool,
-    pub used: usize,
+pub(crate) struct Replayed {
+    pub(crate) agrees: bool,
+    pub(crate) used: usize,
 }
 
 fn put_word(words: &mut [u64], index: u64, value: u64) -> bool {
@@ -150,7 +150,7 @@ fn run_changed(
 }
 
 // Whether the run in the columns from `at` on has the line's answer and leaves what the line says.
-pub fn replay_run(
+pub(crate) fn replay_run(
     numbers: &[u64],
     at: usize,
     tape: &[u64],

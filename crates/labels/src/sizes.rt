@@ -12,16 +12,16 @@ const LENT_WORDS: usize = 2;
 
 const LENT_MARKS: usize = 3;
 
-pub struct Sizes {
-    pub memory: u64,
-    pub log: u64,
-    pub words: usize,
-    pub marks: usize,
+pub(crate) struct Sizes {
+    pub(crate) memory: u64,
+    pub(crate) log: u64,
+    pub(crate) words: usize,
+    pub(crate) marks: usize,
     // whether there is as much as the line lends
-    pub fit: bool,
+    pub(crate) fit: bool,
 }
 
-pub fn sizes_at(numbers: &[u64], at: usize, words: &[u64], marks: &[u8]) -> Sizes
+pub(crate) fn sizes_at(numbers: &[u64], at: usize, words: &[u64], marks: &[u8]) -> Sizes
     requires { ⌜ at ≤ 2000 ⌝ }
     ensures { λ r. ⌜ (r .words ≤ length (now (words .entry))) × (r .marks ≤ length (now (marks .entry))) ⌝ }
 {

@@ -2,6 +2,7 @@
 ghost use Prim.Native.Nat.{_≤_, _<_};
 ghost use mathlib.Core.Path.{_≡_};
 ghost use lib.ListN.{length};
+ghost use Rattle.lists.specs.Columns.{numberAt, lengthAt, isLength, wordsFor, byteOf, bytesAt};
 
 // The most bytes of code, and of data, that a line has.
 pub const MOST_BYTES: usize = 512;
@@ -9,13 +10,16 @@ pub const MOST_BYTES: usize = 512;
 const WORD_BYTES: usize = 8;
 
 // The number in a column; 0 past the end.
-pub fn number_at(numbers: &[u64], at: usize) -> u64 {
+pub fn number_at(numbers: &[u64], at: usize) -> u64
+    ensures { λ r. ⌜ r ≡ numberAt (now (numbers .entry)) at ⌝ }
+{
     if at < numbers.len() { numbers[at] } else { 0 }
 }
 
 // The length in a column. One above the most is cut down to it, and then the line is not whole.
 pub fn length_at(numbers: &[u64], at: usize, most: usize) -> usize
     ensures { λ r. ⌜ r ≤ most ⌝ }
+    ensures { λ r. ⌜ r ≡ lengthAt (now (numbers .entry)) at most ⌝ }
 {
     let length = number_at(numbers, at);
     if length <= most as u64 {
@@ -26,7 +30,9 @@ pub fn length_at(numbers: &[u64], at: usize, most: usize) -> usize
 }
 
 // Whether a length stands in a column as it is.
-pub fn is_length(numbers: &[u64], at: usize, length: usize) -> bool {
+pub fn is_length(numbers: &[u64], at: usize, length: usize) -> bool
+    ensures { λ r. ⌜ r ≡ isLength (now (numbers .entry)) at length ⌝ }
+{
     number_at(numbers, at) == length as u64
 }
 
@@ -34,6 +40,7 @@ pub fn is_length(numbers: &[u64], at: usize, length: usize) -> bool {
 pub fn words_of(bytes: usize) -> usize
     requires { ⌜ bytes ≤ 512 ⌝ }
     ensures { λ r. ⌜ r ≤ 64 ⌝ }
+    ensures { λ r. ⌜ r ≡ wordsFor bytes ⌝ }
 {
     (bytes + WORD_BYTES - 1) / WORD_BYTES
 }
@@ -41,6 +48,7 @@ pub fn words_of(bytes: usize) -> usize
 // A byte of a word, counted from the lowest.
 pub fn byte_of(word: u64, place: u64) -> u8
     requires { ⌜ place < 8 ⌝ }
+    ensures { λ r. ⌜ r ≡ byteOf word place ⌝ }
 {
     ((word >> (8 * place)) % 256) as u8
 }
@@ -49,6 +57,7 @@ pub fn byte_of(word: u64, place: u64) -> u8
 pub fn bytes_at(numbers: &[u64], at: usize) -> [u8; MOST_BYTES]
     requires { ⌜ at ≤ 1000 ⌝ }
     ensures { λ r. ⌜ 512 ≡ length r ⌝ }
+    ensures { λ r. ⌜ r ≡ bytesAt 512 (now (numbers .entry)) at ⌝ }
 {
     let mut bytes = [0; MOST_BYTES];
     let mut i = 0;

@@ -1,5 +1,8 @@
-// A line of the list while its bytes come: a name, then lowercase hexadecimal numbers with one space before each.
+// A line of the list while its bytes come: a name, then lowercase hexadecimal numbers with one space before each. A mark before
+// the name says that something in the line is wrong on purpose.
 ghost use Prim.Native.Nat.{_≤_};
+
+const WRONG: u8 = b'!';
 
 const MOST_DIGITS: usize = 16;
 
@@ -10,8 +13,9 @@ const ROOM_FOR_DIGIT: u64 = 0x1000_0000_0000_0000;
 
 const NO_DIGIT: u64 = 16;
 
-pub struct Line {
-    // whether no byte has come
+pub(crate) struct Line {
+    pub(crate) wrong: bool,
+    // whether no byte of the name has come
     empty: bool,
     in_name: bool,
     // of the number that is being read
@@ -21,7 +25,7 @@ pub struct Line {
     count: usize,
     broken: bool,
     // whether its line feed has come
-    pub ended: bool,
+    pub(crate) ended: bool,
 }
 
 fn digit(byte: u8) -> u64
@@ -35,8 +39,9 @@ fn digit(byte: u8) -> u64
 }
 
 impl Line {
-    pub fn new() -> Line {
+    pub(crate) fn new() -> Line {
         Line {
+            wrong: false,
             empty: true,
             in_name: true,
             value: 0,
@@ -96,15 +101,26 @@ impl Line {
         self.with_number(numbers)
     }
 
-    // Any byte but a line feed. A space ends the name, which may not be empty, or a number.
-    fn with_other(mut self, numbers: &mut [u64], byte: u8) -> Line {
-        let first = self.empty;
+    // A byte before which none of the name has come: the mark, or the name's first. The name may not be empty.
+    fn with_first(mut self, byte: u8) -> Line {
+        if byte == WRONG && !self.wrong {
+            self.wrong = true;
+            return self;
+        }
         self.empty = false;
+        if byte == b' ' {
+            return self.spoilt();
+        }
+        self
+    }
+
+    // Any byte but a line feed. A space ends the name or a number.
+    fn with_other(self, numbers: &mut [u64], byte: u8) -> Line {
+        if self.empty {
+            return self.with_first(byte);
+        }
         if byte != b' ' {
             return self.with_letter(byte);
-        }
-        if first {
-            return self.spoilt();
         }
         if self.in_name {
             return self.past_name();
@@ -112,7 +128,7 @@ impl Line {
         self.with_number(numbers)
     }
 
-    pub fn with_byte(self, numbers: &mut [u64], byte: u8) -> Line {
+    pub(crate) fn with_byte(self, numbers: &mut [u64], byte: u8) -> Line {
         if byte == b'\n' {
             return self.with_end(numbers);
         }
@@ -120,7 +136,7 @@ impl Line {
     }
 
     // How many numbers the line has, of at most so many; none if it is broken or has no end.
-    pub fn numbers(self, most: usize) -> usize
+    pub(crate) fn numbers(self, most: usize) -> usize
         ensures { λ r. ⌜ r ≤ most ⌝ }
     {
         if self.broken {

@@ -7,10 +7,11 @@ use crate::line::Line;
 // Far more than any list has: where reading stops if a file has no end.
 pub const MOST_BYTES: usize = 0x1_0000_0000;
 
-// How many numbers a line has, none if it is broken, and where the next line starts.
+// How many numbers a line has, none if it is broken, where the next line starts, and whether the line is wrong on purpose.
 pub struct Read {
     pub count: usize,
     pub next: usize,
+    pub wrong: bool,
 }
 
 // What came of some bytes, and how many of them belong to the line.
@@ -50,10 +51,12 @@ fn finished(line: Line, most: usize, next: usize) -> Read
     Read {
         count: line.numbers(most),
         next,
+        wrong: line.wrong,
     }
 }
 
-// The numbers of the line from a place on. At the end of the file nothing is read, and the next line starts at that place too.
+// The numbers of the line from a place on. At the end of the file nothing is read, and the next line starts at that place too. What a
+// file holds no contract can say.
 pub fn read_line(fd: i32, from: usize, numbers: &mut [u64]) -> Read
     requires { ⌜ from ≤ 0x1_0000_0000 ⌝ }
     ensures { λ r. ⌜ (from ≤ r .next) × (r .count ≤ length (now (numbers .entry))) ⌝ }

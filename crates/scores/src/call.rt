@@ -16,17 +16,23 @@ use means::MeanType;
 
 const ARITHMETIC: u64 = 0;
 
+const HARMONIC: u64 = 1;
+
 // What stands in the scores before a call: no score is below 1.
-pub const JUNK_SCORE: f64 = 0.25;
+pub(crate) const JUNK_SCORE: f64 = 0.25;
 
 // Whether there is as much as the line lends.
-pub fn can_lend(numbers: &[u64], words: &[u64], marks: &[u8], scores: &[f64]) -> bool {
+pub(crate) fn can_lend(numbers: &[u64], words: &[u64], marks: &[u8], scores: &[f64]) -> bool {
     let lent_words = length_at(numbers, LENT_WORDS, words.len());
     let lent_marks = length_at(numbers, LENT_MARKS, marks.len());
     let lent_scores = length_at(numbers, LENT_SCORES, scores.len());
     is_length(numbers, LENT_WORDS, lent_words)
         && is_length(numbers, LENT_MARKS, lent_marks)
         && is_length(numbers, LENT_SCORES, lent_scores)
+}
+
+pub(crate) fn is_mean(number: u64) -> bool {
+    number <= HARMONIC
 }
 
 fn mean_of(number: u64) -> MeanType {
@@ -38,7 +44,7 @@ fn mean_of(number: u64) -> MeanType {
 }
 
 // The number of the line's call on what the line lends.
-pub fn call(numbers: &[u64], words: &[u64], marks: &[u8], scores: &mut [f64]) -> u64 {
+pub(crate) fn call(numbers: &[u64], words: &[u64], marks: &[u8], scores: &mut [f64]) -> u64 {
     let lent_words = length_at(numbers, LENT_WORDS, words.len());
     let lent_marks = length_at(numbers, LENT_MARKS, marks.len());
     let lent_scores = length_at(numbers, LENT_SCORES, scores.len());
@@ -66,7 +72,7 @@ fn expected(numbers: &[u64], count: usize, i: usize) -> f64
 }
 
 // Whether the first so many scores are the line's, and the others as they were.
-pub fn are_scores(numbers: &[u64], count: usize, scores: &[f64]) -> bool
+pub(crate) fn are_scores(numbers: &[u64], count: usize, scores: &[f64]) -> bool
     requires { ⌜ count ≤ 1536 ⌝ }
 {
     let mut i = 0;

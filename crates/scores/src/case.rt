@@ -4,10 +4,12 @@ use crate::call::JUNK_SCORE;
 use crate::call::are_scores;
 use crate::call::call;
 use crate::call::can_lend;
+use crate::call::is_mean;
 use crate::counters::are_counters;
 use crate::layout::LENT_MARKS;
 use crate::layout::LENT_WORDS;
 use crate::layout::Layout;
+use crate::layout::MEAN;
 use crate::layout::NUMBER;
 use crate::layout::is_whole;
 use crate::layout::layout_of;
@@ -49,7 +51,7 @@ fn replay_counters(numbers: &[u64], layout: Layout, words: &[u64], marks: &[u8])
     )
 }
 
-pub fn judge(numbers: &[u64]) -> Judged {
+pub(crate) fn judge(numbers: &[u64]) -> Judged {
     let layout = layout_of(numbers);
     if !is_whole(numbers, layout) {
         return disagrees(0);
@@ -61,6 +63,7 @@ pub fn judge(numbers: &[u64]) -> Judged {
     Judged {
         agrees: all_words
             && all_marks
+            && is_mean(number_at(numbers, MEAN))
             && replay_call(numbers, layout.scores, &words, &marks)
             && replay_counters(numbers, layout, &words, &marks),
         parts: layout.scores as u64,

@@ -75,7 +75,13 @@ fn is_counter(numbers: &[u64], at: usize, words: &[u64], marks: &[u8]) -> bool
 }
 
 // Whether all counters of the line are so.
-pub fn are_counters(numbers: &[u64], at: usize, count: usize, words: &[u64], marks: &[u8]) -> bool
+pub(crate) fn are_counters(
+    numbers: &[u64],
+    at: usize,
+    count: usize,
+    words: &[u64],
+    marks: &[u8],
+) -> bool
     requires { ⌜ (at ≤ 12000) × (count ≤ 1536) ⌝ }
 {
     let mut i = 0;

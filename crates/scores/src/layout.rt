@@ -2,21 +2,21 @@
 ghost use Prim.Native.Nat.{_≤_};
 use lists::columns::length_at;
 
-pub const MEMORY: usize = 0;
+pub(crate) const MEMORY: usize = 0;
 
-pub const LOG: usize = 1;
+pub(crate) const LOG: usize = 1;
 
-pub const ROWS: usize = 2;
+pub(crate) const ROWS: usize = 2;
 
-pub const MEAN: usize = 3;
+pub(crate) const MEAN: usize = 3;
 
-pub const LENT_WORDS: usize = 4;
+pub(crate) const LENT_WORDS: usize = 4;
 
-pub const LENT_MARKS: usize = 5;
+pub(crate) const LENT_MARKS: usize = 5;
 
-pub const LENT_SCORES: usize = 6;
+pub(crate) const LENT_SCORES: usize = 6;
 
-pub const NUMBER: usize = 7;
+pub(crate) const NUMBER: usize = 7;
 
 const SCORES: usize = 8;
 
@@ -26,26 +26,26 @@ const WORD_RUNS: usize = 10;
 
 const MARK_RUNS: usize = 11;
 
-pub const FIRST_SCORE: usize = 12;
+pub(crate) const FIRST_SCORE: usize = 12;
 
 // Counters and runs have three numbers each.
-pub const TRIPLE: usize = 3;
+pub(crate) const TRIPLE: usize = 3;
 
 // The most that a line has.
-pub const MOST_NUMBERS: usize = 1536;
+pub(crate) const MOST_NUMBERS: usize = 1536;
 
-pub struct Layout {
-    pub scores: usize,
+pub(crate) struct Layout {
+    pub(crate) scores: usize,
     // how many there are, and where the first stands
-    pub counters: usize,
-    pub first_counter: usize,
-    pub word_runs: usize,
-    pub first_word_run: usize,
-    pub mark_runs: usize,
-    pub first_mark_run: usize,
+    pub(crate) counters: usize,
+    pub(crate) first_counter: usize,
+    pub(crate) word_runs: usize,
+    pub(crate) first_word_run: usize,
+    pub(crate) mark_runs: usize,
+    pub(crate) first_mark_run: usize,
 }
 
-pub fn layout_of(numbers: &[u64]) -> Layout
+pub(crate) fn layout_of(numbers: &[u64]) -> Layout
     ensures { λ r. ⌜ (r .scores ≤ 1536) × (r .counters ≤ 1536) × (r .«word_runs» ≤ 1536) × (r .«mark_runs» ≤ 1536) ⌝ }
     ensures { λ r. ⌜ (r .«first_counter» ≤ 1548) × (r .«first_word_run» ≤ 6156) × (r .«first_mark_run» ≤ 10764) ⌝ }
 {
@@ -66,7 +66,7 @@ pub fn layout_of(numbers: &[u64]) -> Layout
 }
 
 // Whether the line has just so many numbers as it says.
-pub fn is_whole(numbers: &[u64], layout: Layout) -> bool
+pub(crate) fn is_whole(numbers: &[u64], layout: Layout) -> bool
     requires { ⌜ (layout .«first_mark_run» ≤ 10764) × (layout .«mark_runs» ≤ 1536) ⌝ }
 {
     numbers.len() == layout.first_mark_run + TRIPLE * layout.mark_runs

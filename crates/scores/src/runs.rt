@@ -58,7 +58,7 @@ fn fill_marks(marks: &mut [u8], from: usize, to: usize, value: u8)
 }
 
 // Puts the words of some runs, and says whether all were within.
-pub fn put_words(numbers: &[u64], at: usize, runs: usize, words: &mut [u64]) -> bool
+pub(crate) fn put_words(numbers: &[u64], at: usize, runs: usize, words: &mut [u64]) -> bool
     requires { ⌜ (at ≤ 12000) × (runs ≤ 1536) ⌝ }
 {
     let mut within = true;
@@ -72,7 +72,7 @@ pub fn put_words(numbers: &[u64], at: usize, runs: usize, words: &mut [u64]) -> 
     within
 }
 
-pub fn put_marks(numbers: &[u64], at: usize, runs: usize, marks: &mut [u8]) -> bool
+pub(crate) fn put_marks(numbers: &[u64], at: usize, runs: usize, marks: &mut [u8]) -> bool
     requires { ⌜ (at ≤ 12000) × (runs ≤ 1536) ⌝ }
 {
     let mut within = true;

@@ -48,7 +48,7 @@ fn replay_search(numbers: &[u64], layout: Layout) -> bool
     lent && is_answer(numbers, answer) && digest_of(&words, &marks) == number_at(numbers, DIGEST)
 }
 
-pub fn judge(numbers: &[u64]) -> Judged {
+pub(crate) fn judge(numbers: &[u64]) -> Judged {
     let layout = layout_of(numbers);
     if layout.end > numbers.len() {
         return disagrees(0);

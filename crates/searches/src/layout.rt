@@ -6,51 +6,51 @@ use lists::columns::length_at;
 use lists::columns::words_of;
 
 // The options are the first, and then what is lent.
-pub const LOG: usize = 7;
+pub(crate) const LOG: usize = 7;
 
-pub const LENT_WORDS: usize = 8;
+pub(crate) const LENT_WORDS: usize = 8;
 
-pub const LENT_MARKS: usize = 9;
+pub(crate) const LENT_MARKS: usize = 9;
 
-pub const CODE_ADDRESS: usize = 10;
+pub(crate) const CODE_ADDRESS: usize = 10;
 
 const CODE_LENGTH: usize = 11;
 
-pub const DATA_ADDRESS: usize = 12;
+pub(crate) const DATA_ADDRESS: usize = 12;
 
 const DATA_LENGTH: usize = 13;
 
 const TAPE_WORDS: usize = 14;
 
 // The answer and the digest.
-pub const NUMBER: usize = 15;
+pub(crate) const NUMBER: usize = 15;
 
-pub const ROW: usize = 16;
+pub(crate) const ROW: usize = 16;
 
-pub const PC: usize = 17;
+pub(crate) const PC: usize = 17;
 
-pub const VALUE: usize = 18;
+pub(crate) const VALUE: usize = 18;
 
-pub const USED: usize = 19;
+pub(crate) const USED: usize = 19;
 
-pub const DIGEST: usize = 20;
+pub(crate) const DIGEST: usize = 20;
 
-pub const CODE: usize = 21;
+pub(crate) const CODE: usize = 21;
 
 // The most that a line has.
-pub const MOST_NUMBERS: usize = 320;
+pub(crate) const MOST_NUMBERS: usize = 320;
 
-pub struct Layout {
+pub(crate) struct Layout {
     // in bytes
-    pub code_length: usize,
-    pub data_length: usize,
+    pub(crate) code_length: usize,
+    pub(crate) data_length: usize,
     // where the words of the data and of the tape begin, and where the tape ends
-    pub data: usize,
-    pub tape: usize,
-    pub end: usize,
+    pub(crate) data: usize,
+    pub(crate) tape: usize,
+    pub(crate) end: usize,
 }
 
-pub fn layout_of(numbers: &[u64]) -> Layout
+pub(crate) fn layout_of(numbers: &[u64]) -> Layout
     ensures { λ r. ⌜ (r .«code_length» ≤ 512) × (r .«data_length» ≤ 512) × (r .«data» ≤ 1000) × (r .tape ≤ r .end) ⌝ }
 {
     let code_length = length_at(numbers, CODE_LENGTH, MOST_BYTES);
@@ -67,7 +67,7 @@ pub fn layout_of(numbers: &[u64]) -> Layout
 }
 
 // Whether the line has the lengths that it says, and just so many numbers.
-pub fn is_whole(numbers: &[u64], layout: Layout) -> bool {
+pub(crate) fn is_whole(numbers: &[u64], layout: Layout) -> bool {
     is_length(numbers, CODE_LENGTH, layout.code_length)
         && is_length(numbers, DATA_LENGTH, layout.data_length)
         && numbers.len() == layout.end

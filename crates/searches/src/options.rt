@@ -4,7 +4,7 @@ use lists::float::float_of;
 use means::MeanType;
 use rounds::options::RaritySimulationOptions;
 
-pub const STATES: usize = 0;
+pub(crate) const STATES: usize = 0;
 
 const STEP: usize = 1;
 
@@ -41,7 +41,7 @@ fn mean_of(number: u64) -> MeanType {
     }
 }
 
-pub fn options_of(numbers: &[u64]) -> RaritySimulationOptions {
+pub(crate) fn options_of(numbers: &[u64]) -> RaritySimulationOptions {
     RaritySimulationOptions {
         memory_size: number_at(numbers, MEMORY),
         amount_of_states: number_at(numbers, STATES),
@@ -54,7 +54,7 @@ pub fn options_of(numbers: &[u64]) -> RaritySimulationOptions {
 }
 
 // Whether there are such options.
-pub fn are_options(numbers: &[u64]) -> bool {
+pub(crate) fn are_options(numbers: &[u64]) -> bool {
     number_at(numbers, MEAN) <= HARMONIC
         && is_count(numbers, STEP)
         && is_count(numbers, SELECTION)

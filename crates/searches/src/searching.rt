@@ -21,7 +21,7 @@ use lists::columns::number_at;
 use search::answer::SearchAnswer;
 
 // Whether there is as much as the line lends.
-pub fn can_lend(numbers: &[u64], words: &[u64], marks: &[u8]) -> bool {
+pub(crate) fn can_lend(numbers: &[u64], words: &[u64], marks: &[u8]) -> bool {
     let lent_words = length_at(numbers, LENT_WORDS, words.len());
     let lent_marks = length_at(numbers, LENT_MARKS, marks.len());
     is_length(numbers, LENT_WORDS, lent_words) && is_length(numbers, LENT_MARKS, lent_marks)
@@ -56,7 +56,7 @@ fn search_with(
     )
 }
 
-pub fn search_line(
+pub(crate) fn search_line(
     numbers: &[u64],
     layout: Layout,
     words: &mut [u64],
@@ -70,7 +70,7 @@ pub fn search_line(
     search_with(numbers, layout, &numbers[tape..end], words, marks)
 }
 
-pub fn is_answer(numbers: &[u64], answer: SearchAnswer) -> bool {
+pub(crate) fn is_answer(numbers: &[u64], answer: SearchAnswer) -> bool {
     answer.number() == number_at(numbers, NUMBER)
         && answer.row() as u64 == number_at(numbers, ROW)
         && answer.pc() == number_at(numbers, PC)

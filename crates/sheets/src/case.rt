@@ -20,7 +20,7 @@ fn replay_sheet(numbers: &[u64], layout: Layout) -> bool
     count == layout.printed && is_printed(numbers, layout, &out)
 }
 
-pub fn judge(numbers: &[u64]) -> Judged {
+pub(crate) fn judge(numbers: &[u64]) -> Judged {
     let layout = layout_of(numbers);
     if layout.stored == 0 {
         return disagrees(0);

@@ -10,26 +10,26 @@ const STORED: usize = 1;
 
 const PRINTED: usize = 2;
 
-pub const SHEET: usize = 3;
+pub(crate) const SHEET: usize = 3;
 
 // The most that a line has, and the most bytes of a sheet: one more than the bench program takes.
-pub const MOST_NUMBERS: usize = 512;
+pub(crate) const MOST_NUMBERS: usize = 512;
 
-pub const MOST_SHEET: usize = 61441;
+pub(crate) const MOST_SHEET: usize = 61441;
 
-pub const MOST_PRINTED: usize = 2048;
+pub(crate) const MOST_PRINTED: usize = 2048;
 
-pub const WORD_BYTES: usize = 8;
+pub(crate) const WORD_BYTES: usize = 8;
 
-pub struct Layout {
-    pub length: usize,
+pub(crate) struct Layout {
+    pub(crate) length: usize,
     // words of the sheet that the line has
-    pub stored: usize,
+    pub(crate) stored: usize,
     // bytes that are printed
-    pub printed: usize,
+    pub(crate) printed: usize,
 }
 
-pub fn layout_of(numbers: &[u64]) -> Layout
+pub(crate) fn layout_of(numbers: &[u64]) -> Layout
     ensures { λ r. ⌜ (r .length ≤ 61441) × (r .stored ≤ 512) × (r .printed ≤ 2048) ⌝ }
 {
     Layout {
@@ -47,7 +47,7 @@ fn are_lengths(numbers: &[u64], layout: Layout) -> bool {
 }
 
 // Whether the line has just so many numbers.
-pub fn is_whole(numbers: &[u64], layout: Layout) -> bool
+pub(crate) fn is_whole(numbers: &[u64], layout: Layout) -> bool
     requires { ⌜ (layout .stored ≤ 512) × (layout .printed ≤ 2048) ⌝ }
 {
     let words = (layout.printed + WORD_BYTES - 1) / WORD_BYTES;

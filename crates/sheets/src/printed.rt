@@ -21,7 +21,7 @@ fn printed_byte(numbers: &[u64], layout: Layout, place: usize) -> u8
     )
 }
 
-pub fn is_printed(numbers: &[u64], layout: Layout, out: &[u8; MOST_PRINTED]) -> bool
+pub(crate) fn is_printed(numbers: &[u64], layout: Layout, out: &[u8; MOST_PRINTED]) -> bool
     requires { ⌜ layout .stored ≤ 512 ⌝ }
 {
     let mut i = 0;

@@ -18,7 +18,7 @@ fn sheet_byte(numbers: &[u64], stored: usize, place: usize) -> u8
     )
 }
 
-pub fn sheet_of(numbers: &[u64], stored: usize, bytes: usize) -> [u8; MOST_SHEET]
+pub(crate) fn sheet_of(numbers: &[u64], stored: usize, bytes: usize) -> [u8; MOST_SHEET]
     requires { ⌜ (0 < stored) × (stored ≤ 512) × (bytes ≤ 61441) ⌝ }
     ensures { λ r. ⌜ 61441 ≡ length r ⌝ }
 {

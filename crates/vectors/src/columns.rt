@@ -38,12 +38,12 @@ fn fits(byte: u8, column: u8) -> bool {
 }
 
 // The byte in a column; 0 past the end.
-pub fn byte_at(line: &[u8], at: usize) -> u8 {
+pub(crate) fn byte_at(line: &[u8], at: usize) -> u8 {
     if at < line.len() { line[at] } else { 0 }
 }
 
 // Whether a line has just these columns.
-pub fn has_shape(line: &[u8], shape: &[u8]) -> bool {
+pub(crate) fn has_shape(line: &[u8], shape: &[u8]) -> bool {
     if line.len() != shape.len() {
         return false;
     }
@@ -72,19 +72,19 @@ fn number_at(line: &[u8], at: usize, digits: usize) -> u64
 }
 
 // The three widths of column that the lists have.
-pub fn sixteen_digits_at(line: &[u8], at: usize) -> u64
+pub(crate) fn sixteen_digits_at(line: &[u8], at: usize) -> u64
     requires { ⌜ at ≤ 1000 ⌝ }
 {
     number_at(line, at, 16)
 }
 
-pub fn eight_digits_at(line: &[u8], at: usize) -> u32
+pub(crate) fn eight_digits_at(line: &[u8], at: usize) -> u32
     requires { ⌜ at ≤ 1000 ⌝ }
 {
     (number_at(line, at, 8) % 0x1_0000_0000) as u32
 }
 
-pub fn two_digits_at(line: &[u8], at: usize) -> u64
+pub(crate) fn two_digits_at(line: &[u8], at: usize) -> u64
     requires { ⌜ at ≤ 1000 ⌝ }
 {
     number_at(line, at, 2)

@@ -31,21 +31,21 @@ const IMM: usize = 21;
 // The codes of the forms; the others stand in `fields_of`.
 const REFUSED: u64 = 0;
 
-pub const LUI: u64 = 1;
+pub(crate) const LUI: u64 = 1;
 
-pub const JALR: u64 = 3;
+pub(crate) const JALR: u64 = 3;
 
-pub const DIVU: u64 = 12;
+pub(crate) const DIVU: u64 = 12;
 
-pub const REMU: u64 = 13;
+pub(crate) const REMU: u64 = 13;
 
 // A decoding in the list's columns: 0 where the form has no such field.
-pub struct Fields {
-    pub form: u64,
-    pub rd: usize,
-    pub rs1: usize,
-    pub rs2: usize,
-    pub imm: u64,
+pub(crate) struct Fields {
+    pub(crate) form: u64,
+    pub(crate) rd: usize,
+    pub(crate) rs1: usize,
+    pub(crate) rs2: usize,
+    pub(crate) imm: u64,
 }
 
 fn r_fields(form: u64, t: RType) -> Fields {
@@ -118,7 +118,7 @@ fn no_fields(form: u64) -> Fields {
     }
 }
 
-pub fn fields_of(instruction: Instruction) -> Fields {
+pub(crate) fn fields_of(instruction: Instruction) -> Fields {
     match instruction {
         Instruction::Lui(t) => u_fields(LUI, t),
         Instruction::Jal(t) => j_fields(2, t),
@@ -155,7 +155,7 @@ fn agrees(line: &[u8], found: Fields) -> bool {
 
 const SHAPE: [u8; 37] = *b"hhhhhhhh hh hh hh hh hhhhhhhhhhhhhhhh";
 
-pub fn judge(line: &[u8]) -> Verdict {
+pub(crate) fn judge(line: &[u8]) -> Verdict {
     if !has_shape(line, &SHAPE) {
         return Verdict::Disagrees;
     }

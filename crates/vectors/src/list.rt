@@ -6,13 +6,16 @@ use crate::results;
 use crate::tally::Tally;
 use crate::tally::Verdict;
 
-pub enum List {
+pub(crate) enum List {
     Decodings,
     Results,
 }
 
 // Far more than a list has: where reading stops if the file has no end.
 const MOST_BYTES: usize = 0x1_0000_0000;
+
+// What stands before a line that is wrong on purpose.
+const WRONG: u8 = b'!';
 
 // What was counted up to the end of a part of a list, and how many bytes of the part that took.
 struct Progress {
@@ -42,6 +45,21 @@ fn judge(line: &[u8], list: List) -> Verdict {
     }
 }
 
+// How many bytes stand before the columns of a line.
+fn mark_length(line: &[u8]) -> usize
+    ensures { λ r. ⌜ r ≤ length (now (line .entry)) ⌝ }
+{
+    if line.len() == 0 {
+        return 0;
+    }
+    if line[0] == WRONG { 1 } else { 0 }
+}
+
+fn counted(line: &[u8], list: List, before: Tally) -> Tally {
+    let start = mark_length(line);
+    before.with(judge(&line[start..], list), start != 0)
+}
+
 // Every line counts, whatever is in it: one that is no case of its list disagrees. A line that the text cuts off is left for
 // the next part, which starts with it; one that is cut off there too is the file's last, or longer than any line of a list.
 fn replay_lines(text: &[u8], list: List, before: Tally) -> Progress
@@ -54,13 +72,13 @@ fn replay_lines(text: &[u8], list: List, before: Tally) -> Progress
         if end == text.len() {
             if start == 0 {
                 return Progress {
-                    tally: tally.with(judge(text, list)),
+                    tally: counted(text, list, tally),
                     used: end,
                 };
             }
             return Progress { tally, used: start };
         }
-        tally = tally.with(judge(&text[start..end], list));
+        tally = counted(&text[start..end], list, tally);
         start = end + 1;
     }
     Progress { tally, used: start }
@@ -75,7 +93,7 @@ fn replay_part(fd: i32, at: usize, list: List, before: Tally) -> Progress
     replay_lines(&text[..n], list, before)
 }
 
-pub fn replay(fd: i32, list: List) -> Tally {
+pub(crate) fn replay(fd: i32, list: List) -> Tally {
     let mut tally = Tally::new();
     let mut at = 0;
     while at < MOST_BYTES {

@@ -1,22 +1,17 @@
 // Replays two lists that were made outside this project, by tools/vectors: what words decode to by the GNU tools, and what
-// instructions do by qemu. Says of each list how many of its lines agree with this project's functions.
+// instructions do by qemu. Says of each list how many of its lines agree with this project's functions, and how many of those
+// that are wrong on purpose do not.
 mod columns;
 mod decodings;
 mod list;
 mod results;
 mod tally;
 
-use libc::STDOUT_FILENO;
 use list::List;
 use tally::Tally;
-
-fn print(text: &[u8]) {
-    io::write_all(STDOUT_FILENO, text);
-}
-
-fn print_number(n: u64) {
-    io::print_decimal(STDOUT_FILENO, n);
-}
+use tally::print;
+use tally::print_number;
+use tally::print_of;
 
 // Replays the list of this name. One that is missing is told, and has no lines.
 fn replay(name: &[u8], list: List) -> Tally {
@@ -34,9 +29,7 @@ fn replay(name: &[u8], list: List) -> Tally {
 fn print_agreeing(name: &[u8], t: Tally) {
     print(name);
     print(b": ");
-    print_number(t.agree);
-    print(b" of ");
-    print_number(t.lines);
+    print_of(t.agree, t.lines);
     print(b" agree");
 }
 
@@ -52,11 +45,18 @@ fn print_departures(t: Tally) {
     print(b" zero divisors");
 }
 
+fn print_wrong(t: Tally) {
+    print(b"; ");
+    print_of(t.disagree, t.wrong);
+    print(b" lines that are wrong on purpose disagree\n");
+}
+
 fn main() {
-    print_agreeing(b"decodings", replay(b"decodings", List::Decodings));
-    print(b"\n");
+    let decodings = replay(b"decodings", List::Decodings);
+    print_agreeing(b"decodings", decodings);
+    print_wrong(decodings);
     let results = replay(b"results", List::Results);
     print_agreeing(b"results", results);
     print_departures(results);
-    print(b"\n");
+    print_wrong(results);
 }

@@ -190,7 +190,7 @@ fn compared(line: &[u8], effect: Effect, fields: Fields) -> Verdict {
 const SHAPE: [u8; 132] =
     *b"? hhhhhhhh hhhhhhhhhhhhhhhh hhhhhhhhhhhhhhhh hhhhhhhhhhhhhhhh hhhhhhhhhhhhhhhh hhhhhhhhhhhhhhhh hh hhhhhhhhhhhhhhhh hhhhhhhhhhhhhhhh";
 
-pub fn judge(line: &[u8]) -> Verdict {
+pub(crate) fn judge(line: &[u8]) -> Verdict {
     if !has_shape(line, &SHAPE) {
         return Verdict::Disagrees;
     }

@@ -1,27 +1,30 @@
-use lib.Ieee.{nanBits}
+-- `lists::float::float_of`: the test is whether the bits are a NaN's, and `0.0 / 0.0` is the one NaN.
+use mathlib.Core.Path.{_≡_, refl, sym, _∙_}
+use mathlib.Core.Bool.{true}
+use lib.Ieee.{Float, nan, inf, fin, isNan, ofBits, binary64, div}
+use lib.Ieee.Bits.{nanBits-is, nanBits-above}
 use borrow.Author.Needs.{needs}
-use borrow.Author.Tests.{eq-eqb, ne-eqb}
+use borrow.Author.Tests.{le-ltb, lt-ltb}
 use Rattle.lists.proofs.float.float_of.Statement.{statement}
 use Rattle.lists.proofs.float.float_of.Tie as tie
 
+is-nan : (x : Float) → isNan x ≡ true → x ≡ nan
+unfolding isNan
+is-nan nan p = refl
+is-nan (inf s) p = cc
+is-nan (fin s m e) p = cc
+
 float-from-bits-result : tie.Need-float-from-bits-result
-unfolding nanBits
-float-from-bits-result c = rw (ne-eqb _ _ (c .if1 .taken)) tt
+float-from-bits-result c = rw (nanBits-above binary64, le-ltb _ _ (c .if1 .left)) tt
 
 returns : tie.Need-returns
-returns c = search needs
-
-float-from-bits-result-2 : tie.Need-float-from-bits-result-2
-unfolding nanBits
-float-from-bits-result-2 c = rw (eq-eqb _ _ (c .before .if1 .left), eq-eqb _ _ (c .if2 .taken)) tt
+unfolding ofBits div
+returns c =
+    let bits = c .before .args .bits in
+    sym (is-nan (ofBits binary64 bits) (sym (nanBits-is binary64 bits) ∙ nanBits-above binary64 _ ∙ lt-ltb _ _ (c .if1 .taken)))
 
 returns-2 : tie.Need-returns-2
 returns-2 c = search needs
 
-returns-3 : tie.Need-returns-3
-returns-3 c = search needs
-
 pub float-of-spec : {M : Type 1} → statement M
-float-of-spec =
-    tie.close
-    (tie.spec float-from-bits-result returns float-from-bits-result-2 returns-2 returns-3)
+float-of-spec = tie.close (tie.spec float-from-bits-result returns returns-2)

@@ -14,10 +14,10 @@ length-at-requires-3 : tie.Need-length-at-requires-3
 length-at-requires-3 c κs = search needs
 
 slice-aggregate-score-with-mean : tie.Need-slice-aggregate-score-with-mean
-slice-aggregate-score-with-mean c = sym (length-take-le _ _ (c .before .before .before .length-at .ensures))
+slice-aggregate-score-with-mean c = sym (length-take-le _ _ (c .before .before .before .length-at .ensures .0))
 
 slice-aggregate-score-with-mean-2 : tie.Need-slice-aggregate-score-with-mean-2
-slice-aggregate-score-with-mean-2 c = sym (length-take-le _ _ (c .before .before .before .length-at2 .ensures))
+slice-aggregate-score-with-mean-2 c = sym (length-take-le _ _ (c .before .before .before .length-at2 .ensures .0))
 
 number-at-requires : tie.Need-number-at-requires
 number-at-requires c κs = search needs
@@ -38,7 +38,7 @@ slice-relend-prefix-score-with-mean : tie.Need-slice-relend-prefix-score-with-me
 slice-relend-prefix-score-with-mean c = search needs
 
 slice-aggregate-score-with-mean-3 : tie.Need-slice-aggregate-score-with-mean-3
-slice-aggregate-score-with-mean-3 c = sym (length-take-le _ _ (c .before .before .before .before .before .before .before .before .length-at3 .ensures))
+slice-aggregate-score-with-mean-3 c = sym (length-take-le _ _ (c .before .before .before .before .before .before .before .before .length-at3 .ensures .0))
 
 score-with-mean-requires : tie.Need-score-with-mean-requires
 score-with-mean-requires c κs = search needs

@@ -11,10 +11,10 @@ length-at-requires-2 : tie.Need-length-at-requires-2
 length-at-requires-2 c κs = search needs
 
 slice-aggregate-are-counters : tie.Need-slice-aggregate-are-counters
-slice-aggregate-are-counters c = sym (length-take-le _ _ (c .before .before .length-at .ensures))
+slice-aggregate-are-counters c = sym (length-take-le _ _ (c .before .before .length-at .ensures .0))
 
 slice-aggregate-are-counters-2 : tie.Need-slice-aggregate-are-counters-2
-slice-aggregate-are-counters-2 c = sym (length-take-le _ _ (c .before .before .length-at2 .ensures))
+slice-aggregate-are-counters-2 c = sym (length-take-le _ _ (c .before .before .length-at2 .ensures .0))
 
 are-counters-requires : tie.Need-are-counters-requires
 are-counters-requires c κs = search needs

@@ -21,13 +21,13 @@ slice-relend-prefix-search-for-bugs : tie.Need-slice-relend-prefix-search-for-bu
 slice-relend-prefix-search-for-bugs c = search needs
 
 slice-aggregate-search-for-bugs : tie.Need-slice-aggregate-search-for-bugs
-slice-aggregate-search-for-bugs c = sym (length-take-le _ _ (c .before .before .length-at .ensures))
+slice-aggregate-search-for-bugs c = sym (length-take-le _ _ (c .before .before .length-at .ensures .0))
 
 slice-relend-prefix-search-for-bugs-2 : tie.Need-slice-relend-prefix-search-for-bugs-2
 slice-relend-prefix-search-for-bugs-2 c = search needs
 
 slice-aggregate-search-for-bugs-2 : tie.Need-slice-aggregate-search-for-bugs-2
-slice-aggregate-search-for-bugs-2 c = sym (length-take-le _ _ (c .before .before .length-at2 .ensures))
+slice-aggregate-search-for-bugs-2 c = sym (length-take-le _ _ (c .before .before .length-at2 .ensures .0))
 
 options-of-requires : tie.Need-options-of-requires
 options-of-requires c κs = search needs

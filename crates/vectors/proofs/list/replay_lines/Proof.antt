@@ -16,11 +16,8 @@ loop-holds c = search needs
 line-end-requires : tie.Need-line-end-requires Inv-loop μ-loop
 line-end-requires c κs = search needs
 
-judge-requires : tie.Need-judge-requires Inv-loop μ-loop
-judge-requires c κs = search needs
-
-with-requires : tie.Need-with-requires Inv-loop μ-loop
-with-requires c κs = search needs
+counted-requires : tie.Need-counted-requires Inv-loop μ-loop
+counted-requires c κs = search needs
 
 returns : tie.Need-returns Inv-loop μ-loop
 returns c = search needs
@@ -28,20 +25,17 @@ returns c = search needs
 returns-2 : tie.Need-returns-2 Inv-loop μ-loop
 returns-2 c = search needs
 
-sub-judge : tie.Need-sub-judge Inv-loop μ-loop
-sub-judge c = search needs
+sub-counted : tie.Need-sub-counted Inv-loop μ-loop
+sub-counted c = search needs
 
-part-judge-start : tie.Need-part-judge-start Inv-loop μ-loop
-part-judge-start c = search needs
+part-counted-start : tie.Need-part-counted-start Inv-loop μ-loop
+part-counted-start c = search needs
 
-part-judge-end : tie.Need-part-judge-end Inv-loop μ-loop
-part-judge-end c = search needs
+part-counted-end : tie.Need-part-counted-end Inv-loop μ-loop
+part-counted-end c = search needs
 
-judge-requires-2 : tie.Need-judge-requires-2 Inv-loop μ-loop
-judge-requires-2 c κs = search needs
-
-with-requires-2 : tie.Need-with-requires-2 Inv-loop μ-loop
-with-requires-2 c κs = search needs
+counted-requires-2 : tie.Need-counted-requires-2 Inv-loop μ-loop
+counted-requires-2 c κs = search needs
 
 add-start : tie.Need-add-start Inv-loop μ-loop
 add-start c = search needs
@@ -63,15 +57,13 @@ replay-lines-spec =
     μ-loop
     loop-holds
     line-end-requires
-    judge-requires
-    with-requires
+    counted-requires
     returns
     returns-2
-    sub-judge
-    part-judge-start
-    part-judge-end
-    judge-requires-2
-    with-requires-2
+    sub-counted
+    part-counted-start
+    part-counted-end
+    counted-requires-2
     add-start
     loop-less
     loop-again
