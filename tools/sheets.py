@@ -1,4 +1,4 @@
-"""What a sheet is and how its instructions are encoded, for the tools that make and explain sheets. All from document 01."""
+"""What a sheet is (docs/SHEETS.md) and how its instructions are encoded, for the tools that make and explain sheets."""
 import collections
 import struct
 
@@ -24,8 +24,9 @@ def ratio_of(bits):
 DEFAULT = MASK
 DEFAULTS = {"states": 3000, "step": 1000, "selection": 50, "rounds": 20, "ratio": bits_of(0.6), "mean": 1, "memory": 2**20}
 
-# The bench program's own limits.
+# The bench program's own limits, and those of hosts over the library.
 SHEET_BYTES, STATES, MEMORY, LOG = 61440, 8, 1024, 64
+HOST_STATES, HOST_MEMORY, HOST_LOG = 4096, 2**20, 65536
 
 
 def header_of(sheet):
@@ -38,11 +39,12 @@ def part(sheet, offset, length):
     return sheet[offset:offset + length]
 
 
-def refusal(sheet):
-    """The number by which the bench program refuses a sheet and what is wrong with it, or None. In document 01's order."""
+def refusal(sheet, host=False):
+    """The number by which the bench program, or a host, refuses a sheet and what is wrong with it, or None.
+    In the order of docs/NUMBERS.md."""
     if len(sheet) < HEADER.size:
         return 51, f"{len(sheet)} bytes are no header of {HEADER.size}"
-    if len(sheet) > SHEET_BYTES:
+    if len(sheet) > SHEET_BYTES and not host:
         return 51, f"{len(sheet)} bytes are more than {SHEET_BYTES}"
     h = header_of(sheet)
     for name, offset, length in (("code", h.code_offset, h.code_length), ("data", h.data_offset, h.data_length),
@@ -50,20 +52,27 @@ def refusal(sheet):
         if offset + length > len(sheet):
             return 52, f"the {name} ends at byte {offset + length} of a sheet of {len(sheet)}"
     if h.mean > 1:
-        return 53, f"mean {h.mean}"
-    for name, most in (("step", 2**32 - 1), ("selection", 2**32 - 1), ("rounds", 2**32 - 1),
-                       ("states", STATES), ("memory", MEMORY), ("log", LOG)):
+        return 53, f"mean {h.mean}, which is neither 0 nor 1"
+    counts = (("step", 2**32 - 1), ("selection", 2**32 - 1), ("rounds", 2**32 - 1))
+    for name, most in counts if host else (*counts, ("states", STATES), ("memory", MEMORY), ("log", LOG)):
         if getattr(h, name) > most:
             return 54, f"{name} {getattr(h, name)}, the most is {most}"
-    if h.memory != MEMORY:  # the one multiple of 1024 that the limits leave
-        return 1, f"memory {h.memory}"
-    if h.states < 1:
-        return 2, f"states {h.states}"
+    return entry_refusal(h)
+
+
+def entry_refusal(h):
+    """As refusal(), where a search is asked for; the bench program's limits have been tested."""
+    if h.memory % 1024 or not 1024 <= h.memory <= HOST_MEMORY:
+        return 1, f"memory {h.memory}, which is no multiple of 1024 from 1024 to {HOST_MEMORY}"
+    if not 1 <= h.states <= HOST_STATES:
+        return 2, f"states {h.states}, not from 1 to {HOST_STATES}"
     if not 0 <= ratio_of(h.ratio) <= 1:
-        return 3, f"ratio {ratio_of(h.ratio)}"
+        return 3, f"ratio {ratio_of(h.ratio)}, not from 0 to 1"
+    if h.log > HOST_LOG:
+        return 4, f"log {h.log}, the most is {HOST_LOG}"
     for name, length in (("code", h.code_length), ("data", h.data_length)):
         if length % 8:
-            return 6, f"{length} bytes of {name}"
+            return 6, f"{length} bytes of {name}, no multiple of 8"
     for name, address, length in (("code", h.code_address, h.code_length), ("data", h.data_address, h.data_length)):
         if length and address // 8 + length // 8 > h.memory // 8:
             return 7, f"{length} bytes of {name} at address {address}, memory {h.memory}"
@@ -134,3 +143,50 @@ def decode(word):
                 operands["imm"] = value if value <= most else value + 2 * least
             return name, operands
     return None
+
+
+# ---- the other instructions of RV64IM, by their GNU names: the bits that are fixed, and what to write instead
+
+LOW_BITS, HALVES = "remu by 2^k keeps the low k bits", "ld of the whole word, then divu and remu by powers of two"
+DISJOINT, SIGNED = "add, where no bit is set in both", "add 2^63 to both numbers, then sltu"
+NO_SIGN = "where no number is negative"
+INSTEAD = {
+    "auipc": "li of a label",
+    "bne": "beq over a j", "bltu": "sltu, then beq", "bgeu": "sltu, then beq", "blt": SIGNED + " and beq", "bge": SIGNED + " and beq",
+    **dict.fromkeys(("lb", "lh", "lw", "lbu", "lhu", "lwu"), HALVES),
+    **dict.fromkeys(("sb", "sh", "sw"), "sd of the whole word"),
+    "slt": SIGNED, "slti": SIGNED, "sltiu": "li, then sltu",
+    **dict.fromkeys(("and", "andi"), LOW_BITS),
+    **dict.fromkeys(("or", "ori", "xor", "xori"), DISJOINT),
+    **dict.fromkeys(("sll", "slli", "sllw", "slliw"), "mul by a power of two"),
+    **dict.fromkeys(("srl", "srli", "srlw", "srliw"), "divu by a power of two"),
+    **dict.fromkeys(("sra", "srai", "sraw", "sraiw"), "divu by a power of two, " + NO_SIGN),
+    **dict.fromkeys(("div", "divw"), "divu, " + NO_SIGN), **dict.fromkeys(("rem", "remw"), "remu, " + NO_SIGN),
+    **dict.fromkeys(("mulh", "mulhsu", "mulhu"), "nothing: mul has the low 64 bits alone"),
+    **{name + "w": name + ", of 64 bits" for name in ("addi", "add", "sub", "mul", "divu", "remu")},
+    **dict.fromkeys(("fence", "fence.i"), "nothing: an executor has its memory for itself"),
+    "ebreak": "the call exit with a number above zero",
+}
+# By opcode: the names by funct3, - for those that have none.
+BY_FUNCT3 = {
+    0x03: "lb lh lw - lbu lhu lwu -", 0x0F: "fence fence.i - - - - - -", 0x13: "- - slti sltiu xori - ori andi",
+    0x17: "auipc " * 8, 0x1B: "addiw - - - - - - -", 0x23: "sb sh sw - - - - -", 0x63: "- bne - - blt bge bltu bgeu",
+}
+# By opcode and funct7. The shifts of 64 bits have six bits for the number, the lowest of them in funct7.
+BY_FUNCT7 = {
+    (0x13, 0): "- slli - - - srli - -", (0x13, 1): "- slli - - - srli - -",
+    (0x13, 0x20): "- - - - - srai - -", (0x13, 0x21): "- - - - - srai - -",
+    (0x1B, 0): "- slliw - - - srliw - -", (0x1B, 0x20): "- - - - - sraiw - -",
+    (0x33, 0): "- sll slt - xor srl or and", (0x33, 0x20): "- - - - - sra - -", (0x33, 1): "- mulh mulhsu mulhu div - rem -",
+    (0x3B, 0): "addw sllw - - - srlw - -", (0x3B, 0x20): "subw - - - - sraw - -", (0x3B, 1): "mulw - - - divw divuw remw remuw",
+}
+EBREAK = 0x00100073
+
+
+def other_name(word):
+    """The GNU name of a word that is an instruction of RV64IM and none of the fourteen, or None."""
+    opcode, funct3, funct7 = word & 0x7F, word >> 12 & 7, word >> 25
+    for names in (BY_FUNCT3.get(opcode), BY_FUNCT7.get((opcode, funct7))):
+        if names and names.split()[funct3] != "-":
+            return names.split()[funct3]
+    return "ebreak" if word == EBREAK else None
