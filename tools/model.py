@@ -1,6 +1,6 @@
-"""A model of document 01: one executor on its row, the entries over one row, scoring, whole searches, and sheets.
+"""A model of the scope paper: one executor on its row, the entries over one row, scoring, whole searches, and sheets.
 
-A second reading of the document that shares nothing with the Rattle code. The tools that make the lists in crates/*/data ask it
+A second reading of the paper that shares nothing with the Rattle code. The tools that make the lists in crates/*/data ask it
 what each case must come to.
 """
 import collections

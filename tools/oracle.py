@@ -1,8 +1,9 @@
-"""The oracle: the Rust of document 000 with document 01's stand-ins, as a program."""
+"""The oracle (oracle/): the Rust, src/engine/rarity_simulation.rs of cksystemsgroup/monster, with four stand-ins, as a program."""
 import os
 import subprocess
 
-from lists import CRATES, need
+from commands import need_to_run
+from lists import CRATES
 
 ORACLE = os.path.join(os.path.dirname(CRATES), "oracle", "target", "release", "oracle")
 
@@ -12,7 +13,7 @@ SECONDS = 60
 
 
 def need_oracle():
-    need(os.path.exists(ORACLE), "the oracle is not built: cargo build --release in oracle/")
+    need_to_run(os.path.exists(ORACLE), "the oracle is not built: cargo build --release in oracle/")
 
 
 def run_on(command, sheet):

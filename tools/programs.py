@@ -6,6 +6,7 @@ import os
 import shutil
 import subprocess
 
+from commands import need_to_run
 from lists import need
 from model import A0, A1, A2, BRK, EXIT, READ, SP, T0, T1, WRITE, X0
 
@@ -22,7 +23,7 @@ SYMBOLS |= {key: n + 1 for n, key in enumerate(["PEANUT", "ALMOND", "MILK", "EGG
 
 def need_tools():
     for tool in (AS, LD, OBJCOPY):
-        need(shutil.which(tool), f"{tool} is missing: install Debian's package {PACKAGE}")
+        need_to_run(shutil.which(tool), f"{tool} is missing: install Debian's package {PACKAGE}")
 
 
 def run_tool(*command):
