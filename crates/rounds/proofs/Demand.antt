@@ -10,13 +10,14 @@ use Rattle.checks.specs.Refusals.{isCopyRatio}
 use Rattle.store.specs.Store.{Sized}
 use Rattle.rounds.specs.Calls.{Call}
 use Rattle.rounds.specs.Demand.{All, nil, Fair, FairRound, Demand}
-use Rattle.rounds.specs.Rounds.{Start, beginning, copies, tapeShort, filled, stateOf, chosenOf, goes, ranOn, roundOf}
+use Rattle.rounds.specs.Rounds.{Start, beginning, copies, tapeShort, filled, usedAfter, rowAfter, stateOf, chosenOf, goes, ranOn, roundOf}
 use Rattle.rounds.proofs.Every.{every}
+use Rattle.rounds.proofs.Exact.{exact-some}
 use Rattle.rounds.proofs.Filling.{filled-length, new-proper}
 use Rattle.rounds.proofs.Fronts.{front, leaves}
 use Rattle.rounds.proofs.Handing.{running, running-all, kept-chosen, kept-all}
-use Rattle.rounds.proofs.Keeping.{each-once, as-many, rarest-kept}
-use Rattle.rounds.proofs.Lists.{all-with}
+use Rattle.rounds.proofs.Keeping.{each-once, as-many, goes-on, rarest-kept}
+use Rattle.rounds.proofs.Lists.{all-with, all-among}
 use Rattle.rounds.proofs.Proper.{Proper, not-zero}
 use Rattle.rounds.proofs.Running.{run-all-length, run-proper, still-running-length}
 
@@ -61,18 +62,31 @@ module _ (c : Call) (sized : Sized (c .layout)) (ratio : T (isCopyRatio (c .opti
           record {
             each-once = rw kept (each-once c (running c s));
             as-many = kept-as-many;
+            exact = all-with (λ r i. exact-some (running c s) (omega (arith, running-few, sized .few)) (c .options .mean) i) (all-among (running c s));
             rarest =
                 rw kept
                 (rarest-kept c (running c s) (omega (arith, running-few, sized .few)) (all-with (λ r h. omega (arith, h .marks, sized .memory)) running-proper));
             not-zero = all-with (λ r h. not-zero sized h) kept-proper;
           }
 
+    -- a round that meets no bug and no error
+    pub fair-round : FairRound c (roundOf c s)
+    unfolding roundOf ranOn
+    fair-round quiet =
+        let runs = roundOf c s .runs in
+        let used = usedAfter (s .used + copies c s) runs in
+        let next : Start = record { kept = map stateOf (chosenOf (c .options) (running c s) .kept); used = used } in
+        let e : roundOf c s .after ≡ goes next = rw quiet
+        (goes-on c (running c s) (omega (arith, running-few, sized .few)) (all-with (λ r h. omega (arith, h .marks, sized .memory)) running-proper) (map rowAfter runs) used) in
+        record { next = next; goes-on = e; fair = fair next e }
+
 -- a store and a copy ratio that document 01 allows are all that is asked of a call
-pub demand : (c : Call) (n : ℕ) → Sized (c .layout) → T (isCopyRatio (c .options .«copy_init_ratio»)) → Demand c n
-demand c n sized ratio =
+pub demand : (c : Call) → Sized (c .layout) → T (isCopyRatio (c .options .«copy_init_ratio»)) → Demand c
+demand c sized ratio =
     record {
       every =
-          every c (Ready c) (FairRound c) (fair c sized ratio) (λ s t ready tape e. handed-on c sized ratio s ready tape t e) n beginning (begins c);
-      front = λ k h. front c k n beginning h;
-      leaves = λ k r next. leaves c k beginning r next;
+          every c (Ready c) (FairRound c) (fair-round c sized ratio) (λ s t ready tape e. handed-on c sized ratio s ready tape t e)
+          (c .options .iterations) beginning (begins c);
+      front = front c;
+      leaves = leaves c;
     }

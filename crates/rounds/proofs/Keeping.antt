@@ -1,11 +1,13 @@
 -- What a round keeps of the rows still running: each is kept or passed over, and none that is passed over is rarer than one that is kept.
 use mathlib.Core.Bool.{Bool, true, false, cond}
 use mathlib.Core.List.{List, [], _∷_, _++_, map, map-append, List·Memᴰ}
-use mathlib.Core.Path.{_≡_, refl, sym, ap, _∙_}
-use Prim.Native.Nat.{ℕ, min, _≤_}
+use mathlib.Core.Path.{_≡_, refl, ap, _∙_}
+use Prim.Native.Nat.{ℕ, min, _*_, _≤_}
+use native.Mathlib.Nat.{le-refl}
 use native.Mathlib.Omega.{arith}
 use lib.Dec.{T}
-use lib.Ieee.Positive.{positive}
+use lib.Ieee.{Float, le}
+use lib.Ieee.Positive.{num, den, positive, cross→le}
 use lib.ListN.{length, length-map}
 use Rattle.rows.specs.Rows.{Row}
 use Rattle.counting.specs.Counters.{countersOf}
@@ -16,24 +18,21 @@ use Rattle.rarity.proofs.Bounds.{scores-positive, ruler-of}
 use Rattle.rounds.specs.declared.finding.Finding.{Finding}
 use Rattle.rounds.specs.declared.finding.Finding.the-variants.{Nothing, Found, Failed, TapeShort, ScoresUnordered}
 use Rattle.rounds.specs.Calls.{Call}
-use Rattle.rounds.specs.Demand.{Permutation, All}
-use Rattle.rounds.specs.Rounds.{Start, Ranked, stateOf, rankedAmong, lower, chosenOf, goes, ends, endsOr, selected}
+use Rattle.rounds.specs.Demand.{Permutation, All, nil, cons}
+use Rattle.rounds.specs.Rounds.{Start, Ranked, stateOf, rankedAmong, lower, chosenOf, After, goes, endsOr, selected}
 use Rattle.rounds.proofs.Choosing.{rarest-each-once, rarest-as-many, rarest-lowest}
 use Rattle.rounds.proofs.Floats.{lt-irreflexive, lt-transitive, not-lt-le}
 use Rattle.rounds.proofs.Lists.{permutation-map, all-permuted, all-left, all-right, all-with, all-both, all-among, all-map}
 
 -- ---- a round that goes on keeps what is chosen
+either : {A : Type 0} {x y z : After} (b : Bool) → cond b x y ≡ z → (x ≡ z → A) → (y ≡ z → A) → A
+either true e f g = f e
+either false e f g = g e
+
 goes-kept : (c : Call) (rows : List Row) (used : ℕ) (running : List Row) (next : Start) → selected (c .options) rows used running ≡ goes next
     → next .kept ≡ map stateOf (chosenOf (c .options) running .kept)
 unfolding selected
-goes-kept c rows used running next = by (areOrdered (scoresOf (c .options .mean) running))
-  where
-    kept : List Row
-    kept = map stateOf (chosenOf (c .options) running .kept)
-
-    by : (b : Bool) → cond b (goes (record { kept = kept; used = used })) (ends ScoresUnordered rows used) ≡ goes next → next .kept ≡ kept
-    by true e = let same : _≡_ {A = Start} (record { kept = kept; used = used }) next = cc in ap (λ (s : Start). s .kept) (sym same)
-    by false e = let z : _≡_ {A = ℕ} 0 1 = cc in absurd (omega arith)
+goes-kept c rows used running next e = either (areOrdered (scoresOf (c .options .mean) running)) e (λ p. cc) (λ p. cc)
 
 pub round-kept : (c : Call) (f : Finding) (rows : List Row) (used : ℕ) (running : List Row) (next : Start)
     → endsOr f rows used (selected (c .options) rows used running) ≡ goes next → next .kept ≡ map stateOf (chosenOf (c .options) running .kept)
@@ -66,6 +65,16 @@ module _ (c : Call) (rows : List Row) where
       ∙ rarest-as-many lower _ ranked
       ∙ ap (min _) (length-map rows (rankedAmong (c .options .mean) rows))
 
+-- ---- scores above zero can be ordered
+holds : (b : Bool) → T b → b ≡ true
+holds true t = refl
+holds false t = absurd t
+
+ordered : {l : List Float} → All (λ s. T (positive s)) l → areOrdered l ≡ true
+unfolding areOrdered
+ordered nil = refl
+ordered (cons {x = s} p ps) = rw (holds (le s s) (cross→le s s p p (le-refl (num s * den s))), ordered ps)
+
 -- few rows of few marks: their scores are above zero and a ruler for the exact means
 module _ (c : Call) (rows : List Row) (few : length rows ≤ 4096) (short : All (λ r. length (r .marks) ≤ 131104) rows) where
   abbrev m : MeanType
@@ -83,6 +92,13 @@ module _ (c : Call) (rows : List Row) (few : length rows ≤ 4096) (short : All 
   all-scored : All Scored (ranked c rows)
   all-scored =
       all-map (rankedAmong m rows) (all-with (λ r h. record { among = h .0; small = h .1; rank = refl }) (all-both (all-among rows) short))
+
+  -- so 31 is not given, and the round goes on with what is chosen
+  pub goes-on : (left : List Row) (used : ℕ)
+      → selected (c .options) left used rows ≡ goes (record { kept = map stateOf (chosenOf (c .options) rows .kept); used = used })
+  unfolding selected
+  goes-on left used =
+      rw (ordered (all-map (score m rows) (all-with (λ r h. scores-positive rows few m (h .0) (h .1)) (all-both (all-among rows) short))))
 
   abbrev Rarer : Row → Row → Type 0
   Rarer q r = AtMost (exactMean m (countersOf rows q)) (exactMean m (countersOf rows r))

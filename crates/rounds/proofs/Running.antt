@@ -5,8 +5,6 @@ use mathlib.Core.Path.{_≡_, refl, ap, _∙_}
 use Prim.Native.Nat.{ℕ, suc, _≤_}
 use native.Mathlib.Omega.{arith}
 use lib.ListN.{length, length-map}
-use Rattle.answers.specs.declared.outcome.Progress.{Progress}
-use Rattle.answers.specs.declared.outcome.Progress.the-variants.{Running, Ended}
 use Rattle.rows.specs.Rows.{Row}
 use Rattle.machine.specs.Runs.{Finished, runOf}
 use Rattle.invariants.proofs.Lengths.{run-words, run-marks}
@@ -15,7 +13,7 @@ use Rattle.store.specs.declared.layout.Layout.{Layout}
 use Rattle.counting.specs.Counters.{taking}
 use Rattle.rarity.proofs.Among.{taking-length}
 use Rattle.rounds.specs.Demand.{All, nil, cons}
-use Rattle.rounds.specs.Rounds.{runAll, rowAfter, isRunning, runningFlag, stillRunning}
+use Rattle.rounds.specs.Rounds.{runAll, rowAfter, runningFlag, stillRunning}
 use Rattle.rounds.proofs.Proper.{Proper}
 
 pub run-all-length : (step : ℕ) (tape : List ℕ) (used : ℕ) (rows : List Row) → length (runAll step tape used rows) ≡ length rows
@@ -39,10 +37,6 @@ run-all-each step tape each used nil = nil
 run-all-each step tape each used (cons {x = r} h hs) = cons (each used r h) (run-all-each step tape each (runOf step tape used r .ran .used) hs)
 
 -- ---- the rows that take part
-pub flagged-running : (p : Progress) → isRunning p ≡ true → p ≡ Running
-flagged-running Running e = refl
-flagged-running (Ended o) e = cc
-
 all-taking : {P : Row → Type 0} (flags : List Bool) {rows : List Row} → All P rows → All P (taking flags rows)
 unfolding taking
 all-taking [] ps = nil

@@ -18,3 +18,22 @@ pub record Call : Type 0 where
 
 abbrev pub call : RaritySimulationOptions → Layout → Program → List ℕ → Call
 call o s p tape = record { options = o; layout = s; image = p; tape = tape }
+
+-- the same call with another number of rounds
+abbrev pub ofRounds : ℕ → Call → Call
+ofRounds k c =
+    record {
+      options =
+          record {
+            «memory_size» = c .options .«memory_size»;
+            «amount_of_states» = c .options .«amount_of_states»;
+            «step_size» = c .options .«step_size»;
+            selection = c .options .selection;
+            iterations = k;
+            «copy_init_ratio» = c .options .«copy_init_ratio»;
+            mean = c .options .mean;
+          };
+      layout = c .layout;
+      image = c .image;
+      tape = c .tape;
+    }

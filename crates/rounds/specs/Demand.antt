@@ -1,15 +1,15 @@
--- Demand 3: what every round that goes on keeps, as one claim about the whole list of a call's rounds.
+-- Demand 3: every round that meets no bug and no error goes on, and what it keeps, as one claim about the whole list of a call's rounds.
 use mathlib.Core.List.{List, [], _∷_, _++_, map}
 use mathlib.Core.Path.{_≡_}
 use Prim.Native.Nat.{ℕ, suc, min, _≤_}
-use lib.ListN.{length, getD, take}
+use lib.ListN.{length, take}
 use Rattle.rows.specs.Rows.{Row}
 use Rattle.store.specs.Store.{zeroRow}
 use Rattle.means.specs.Means.{Fraction, exactMean, AtMost}
 use Rattle.counting.specs.Counters.{countersOf}
 use Rattle.rounds.specs.declared.finding.Finding.the-variants.{Nothing}
-use Rattle.rounds.specs.Calls.{Call}
-use Rattle.rounds.specs.Rounds.{Start, beginning, stored, stillRunning, stateOf, chosenOf, Round, goes, rounds, searchFrom}
+use Rattle.rounds.specs.Calls.{Call, ofRounds}
+use Rattle.rounds.specs.Rounds.{Start, stored, outcomeOf, stillRunning, stateOf, chosenOf, Round, goes, roundsOf, searched}
 
 module _ {A : Type 0} where
   -- l becomes m when x is put in somewhere
@@ -40,19 +40,27 @@ pub record Fair (c : Call) (r : Round) (next : Start) : Type 0 where
   pub each-once : Permutation (next .kept ++ passedOver c r) (stillRunning (r .runs))
   -- exactly the smaller of the selection and the number still running are kept
   pub as-many : length (next .kept) ≡ min (c .options .selection) (length (stillRunning (r .runs)))
+  -- every exact mean is a fraction: no denominator is zero
+  pub exact : All (λ x. 1 ≤ exactRarity c r x .denominator) (stillRunning (r .runs))
   -- a kept state's exact mean times 2^30 is at most a passed one's times 2^30 + 1
   pub rarest : All (λ x. All (λ y. AtMost (exactRarity c r x) (exactRarity c r y)) (passedOver c r)) (next .kept)
   -- a kept row is not a zero row
   pub not-zero : All (λ x. x ≡ zeroRow (c .layout) → ⊥) (next .kept)
 
-abbrev pub FairRound : Call → Round → Type 0
-FairRound c r = (next : Start) → r .after ≡ goes next → Fair c r next
+-- a round in which no row meets a bug or an error goes on, and is fair
+pub record GoesOn (c : Call) (r : Round) : Type 0 where
+  pub next : Start
+  pub goes-on : r .after ≡ goes next
+  pub fair : Fair c r next
 
--- the whole list, for a call of n rounds
-pub record Demand (c : Call) (n : ℕ) : Type 0 where
-  pub every : All (FairRound c) (rounds n c beginning)
-  -- the list for fewer rounds is the front of the list for more
-  pub front : (k : ℕ) → k ≤ n → rounds k c beginning ≡ take k (rounds n c beginning)
+abbrev pub FairRound : Call → Round → Type 0
+FairRound c r = outcomeOf (r .runs) ≡ Nothing → GoesOn c r
+
+-- the whole list of a call's rounds
+pub record Demand (c : Call) : Type 0 where
+  pub every : All (FairRound c) (roundsOf c)
+  -- a call with fewer rounds has the front of the list
+  pub front : (k : ℕ) → k ≤ c .options .iterations → roundsOf (ofRounds k c) ≡ take k (roundsOf c)
   -- what is kept is what the call leaves not zero if that round is its last
-  pub leaves : (k : ℕ) (r : Round) (next : Start) → length (rounds (suc k) c beginning) ≡ suc k → getD (rounds (suc k) c beginning) k r .after ≡ goes next
-      → searchFrom (suc k) c beginning ≡ record { finding = Nothing; rows = stored (c .layout) (next .kept); used = next .used }
+  pub leaves : (before : List Round) (r : Round) (next : Start) → roundsOf (ofRounds (suc (length before)) c) ≡ before ++ (r ∷ []) → r .after ≡ goes next
+      → searched (ofRounds (suc (length before)) c) ≡ record { finding = Nothing; rows = stored (c .layout) (next .kept); used = next .used }

@@ -176,7 +176,11 @@ unfoldable pub rounds : ℕ → Call → Start → List Round
 rounds zero c s = []
 rounds (suc n) c s = cond (tapeShort c s) [] (roundOf c s ∷ roundsAfter (roundOf c s .after) (λ next. rounds n c next))
 
--- ---- what a call answers and leaves, by the same recursion
+-- the list of a call's rounds
+abbrev pub roundsOf : Call → List Round
+roundsOf c = rounds (c .options .iterations) c beginning
+
+-- ---- what is answered and left, by the same recursion
 pub record Searched : Type 0 where
   pub finding : Finding
   pub rows : List Row
@@ -193,3 +197,7 @@ searchFrom (suc n) c s =
     cond (tapeShort c s)
     (record { finding = TapeShort; rows = stored (c .layout) (s .kept); used = s .used })
     (searchedAfter (roundOf c s .after) (λ next. searchFrom n c next))
+
+-- what a call answers and leaves
+abbrev pub searched : Call → Searched
+searched c = searchFrom (c .options .iterations) c beginning

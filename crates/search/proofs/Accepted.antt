@@ -19,10 +19,9 @@ use Rattle.checks.proofs.Passed.{memory-size, log-size}
 use Rattle.store.specs.Store.{Fit}
 use Rattle.store.proofs.Lent.{lengths-fit}
 use Rattle.rounds.specs.Calls.{layoutOf, call}
-use Rattle.rounds.specs.Demand.{Demand}
 use Rattle.rounds.specs.declared.options.RaritySimulationOptions.{RaritySimulationOptions}
 use Rattle.rounds.proofs.Demand.{demand}
-use Rattle.search.specs.Entry.{optionsThen, searchChecked}
+use Rattle.search.specs.Entry.{optionsThen, searchChecked, Demanded}
 
 -- five tests, each with its refusal, and what follows them
 abbrev Tested : Bool → Bool → Bool → Bool → Bool → Checked → Checked
@@ -111,7 +110,7 @@ module _ (o : RaritySimulationOptions) (log : ℕ) (p : Program) (words marks : 
   allowed e k = allowed-by (checked-as e k)
 
   -- demand 3 of an accepted call
-  pub allowed-demand : (tape : List ℕ) → searchChecked o log p words marks ≡ Accepted → Demand (call o (layoutOf o log) p tape) (o .iterations)
+  pub allowed-demand : (tape : List ℕ) → Demanded o log p tape words marks
   allowed-demand tape h =
       let a = allowed-by h in
-      demand (call o (layoutOf o log) p tape) (o .iterations) (a .fit .sized) (a .ratio)
+      demand (call o (layoutOf o log) p tape) (a .fit .sized) (a .ratio)

@@ -12,7 +12,7 @@ use Rattle.store.specs.declared.layout.Layout.{Layout}
 use Rattle.store.proofs.Rows.{words-flat, marks-flat, fit-same}
 use Rattle.rows.specs.Rows.{Row}
 use Rattle.rounds.specs.Calls.{layoutOf, call}
-use Rattle.rounds.specs.Rounds.{beginning, searchFrom}
+use Rattle.rounds.specs.Rounds.{searched}
 use Rattle.rounds.specs.declared.options.RaritySimulationOptions.{RaritySimulationOptions}
 use Rattle.search.specs.Entry.{searchChecked, searchedAs, left, searchLeft, searchEntry}
 use Rattle.search.specs.declared.answer.SearchAnswer.{SearchAnswer}
@@ -41,7 +41,7 @@ module _ {o : RaritySimulationOptions} {log : ℕ} {p : Program} {words marks : 
     still-fit = fit-same words′ marks′ lent-fit ew em
 
     pub left-accepted : (tape : List ℕ) (a : SearchAnswer)
-        → searchedAs a (rowsOf s words′ marks′) (searchFrom (o .iterations) (call o s p tape) beginning)
+        → searchedAs a (rowsOf s words′ marks′) (searched (call o s p tape))
         → left words′ marks′ a ≡ searchEntry o log p tape words marks
     unfolding searchLeft
     left-accepted tape a x =

@@ -13,8 +13,9 @@ use Rattle.loader.specs.Loading.{Program}
 use Rattle.rows.specs.Rows.{Row}
 use Rattle.store.specs.Store.{wordsOf, marksOf}
 use Rattle.rounds.specs.Calls.{layoutOf, call}
+use Rattle.rounds.specs.Demand.{Demand}
 use Rattle.rounds.specs.Findings.{findingNumber, findingRow, findingPc, findingValue}
-use Rattle.rounds.specs.Rounds.{Searched, beginning, searchFrom}
+use Rattle.rounds.specs.Rounds.{Searched, searched}
 use Rattle.rounds.specs.declared.options.RaritySimulationOptions.{RaritySimulationOptions}
 use Rattle.search.specs.declared.answer.SearchAnswer.{SearchAnswer}
 use Rattle.search.specs.declared.answer.SearchAnswer.the-variants as answer
@@ -55,11 +56,15 @@ searchedAs a rows x = (a ≡ answer.Searched (x .finding) (x .used)) × (rows �
 
 -- a refused call leaves everything as found; an accepted one zeroes all rows and runs the rounds
 unfoldable pub searchLeft : Checked → RaritySimulationOptions → ℕ → Program → List ℕ → List ℕ → List ℕ → Left
-searchLeft checked.Accepted o log p tape words marks = leftBy (searchFrom (o .iterations) (call o (layoutOf o log) p tape) beginning)
+searchLeft checked.Accepted o log p tape words marks = leftBy (searched (call o (layoutOf o log) p tape))
 searchLeft (checked.Refused f) o log p tape words marks = left words marks (answer.Refused f)
 
 abbrev pub searchEntry : RaritySimulationOptions → ℕ → Program → List ℕ → List ℕ → List ℕ → Left
 searchEntry o log p tape words marks = searchLeft (searchChecked o log p words marks) o log p tape words marks
+
+-- demand 3 of a call that is not refused
+abbrev pub Demanded : RaritySimulationOptions → ℕ → Program → List ℕ → List ℕ → List ℕ → Type 0
+Demanded o log p tape words marks = searchChecked o log p words marks ≡ checked.Accepted → Demand (call o (layoutOf o log) p tape)
 
 -- document 01's number, row, pc, value and used count of an answer; what has no use is 0
 abbrev pub answerNumber : SearchAnswer → ℕ

@@ -8,10 +8,9 @@ ghost use Rattle.checks.specs.Segments.{segmentsChecked};
 ghost use Rattle.checks.specs.declared.refusal.Checked.the-variants.{Accepted};
 ghost use Rattle.loader.specs.Loading.{segment, program, Fits};
 ghost use Rattle.store.specs.Store.{Fit, rowsOf, zeroRow};
-ghost use Rattle.rounds.specs.Calls.{layoutOf, call};
-ghost use Rattle.rounds.specs.Demand.{Demand};
-ghost use Rattle.rounds.specs.Rounds.{beginning, searchFrom};
-ghost use Rattle.search.specs.Entry.{optionsThen, searchChecked, searchedAs, left, searchEntry};
+ghost use Rattle.rounds.specs.Calls.{call};
+ghost use Rattle.rounds.specs.Rounds.{searched};
+ghost use Rattle.search.specs.Entry.{optionsThen, searchedAs, left, searchEntry, Demanded};
 
 pub mod answer;
 
@@ -93,7 +92,8 @@ fn search_rounds(
     tape: &[u64],
 ) -> SearchAnswer
     requires { ⌜ Fit store (now words) (now marks) ⌝ ∗ ⌜ rowsOf store (now words) (now marks) ≡ replicate (store .rows) (zeroRow store) ⌝ ∗ ⌜ T (isCopyRatio (options .«copy_init_ratio»)) ⌝ ∗ ⌜ Fits (store .marks - 32) (segment «code_address» (now code)) ⌝ ∗ ⌜ Fits (store .marks - 32) (segment «data_address» (now «data»)) ⌝ }
-    ensures { λ r. ⌜ searchedAs r (rowsOf store (now (words .exit)) (now (marks .exit))) (searchFrom (options .iterations) (call options store (program (segment «code_address» (now (code .entry))) (segment «data_address» (now («data» .entry)))) (now (tape .entry))) beginning) ⌝ }
+    ensures { λ r. ⌜ searchedAs r (rowsOf store (now (words .exit)) (now (marks .exit)))
+        (searched (call options store (program (segment «code_address» (now (code .entry))) (segment «data_address» (now («data» .entry)))) (now (tape .entry)))) ⌝ }
 {
     let mut kept = 0;
     let mut used = 0;
@@ -145,7 +145,11 @@ pub fn search_for_bugs(
     data: &[u8],
     tape: &[u64],
 ) -> SearchAnswer
-    ensures { λ r. ⌜ left (now (words .exit)) (now (marks .exit)) r ≡ searchEntry options log (program (segment «code_address» (now (code .entry))) (segment «data_address» (now («data» .entry)))) (now (tape .entry)) (now (words .entry)) (now (marks .entry)) ⌝ ∗ ⌜ (searchChecked options log (program (segment «code_address» (now (code .entry))) (segment «data_address» (now («data» .entry)))) (now (words .entry)) (now (marks .entry)) ≡ Accepted → Demand (call options (layoutOf options log) (program (segment «code_address» (now (code .entry))) (segment «data_address» (now («data» .entry)))) (now (tape .entry))) (options .iterations)) ⌝ }
+    ensures { λ r. ⌜ left (now (words .exit)) (now (marks .exit)) r
+        ≡ searchEntry options log (program (segment «code_address» (now (code .entry))) (segment «data_address» (now («data» .entry))))
+        (now (tape .entry)) (now (words .entry)) (now (marks .entry)) ⌝ }
+    ensures { λ _. ⌜ Demanded options log (program (segment «code_address» (now (code .entry))) (segment «data_address» (now («data» .entry))))
+        (now (tape .entry)) (now (words .entry)) (now (marks .entry)) ⌝ }
 {
     let checked = check_call(
         options,
