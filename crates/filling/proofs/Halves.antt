@@ -25,6 +25,7 @@ use native.Mathlib.Nat.{
   mul-div-mul-right,
   min-eq-left,
   div-le-of-le-mul,
+  div-eq-of-lt,
   zero-div,
 }
 use native.Mathlib.Decide.{decLt}
@@ -153,8 +154,15 @@ pub record Twice (p : Float) : Type 0 where
   pub small : toUnsigned 64 (add binary64 p p) ≤ 8192
   pub half : (toUnsigned 64 (add binary64 p p) + 1) / 2 ≡ nearest p
 
-twice : (p : Float) (n : ℕ) → n ≤ 4096 → T (fits binary64 p) → Within p n → Twice p
+-- a minus sign is that of a zero only
+signed-nearest : (s : Bool) (m : ℕ) (e : ℤ) → (T s → m ≡ 0) → (2 * (m * up e) + down e) / (2 * down e) ≡ nearest (fin s m e)
 unfolding nearest
+signed-nearest false m e z = refl
+signed-nearest true m e z =
+    let none : m * up e ≡ 0 = ap (λ (k : ℕ). k * up e) (z tt) ∙ zero-mul (up e) in
+    div-eq-of-lt (omega (arith, down-pos e))
+
+twice : (p : Float) (n : ℕ) → n ≤ 4096 → T (fits binary64 p) → Within p n → Twice p
 twice nan n h f w = absurd w
 twice (inf s) n h f w = absurd w
 twice (fin s m e) n h f w =
@@ -173,7 +181,7 @@ twice (fin s m e) n h f w =
       above = low-of a (d * d) some _ s v none;
       below = high-of a (d * d) some _ s v most;
       small = omega arith;
-      half = ap (λ (z : ℕ). (z + 1) / 2) c ∙ halves x d dp;
+      half = ap (λ (z : ℕ). (z + 1) / 2) c ∙ halves x d dp ∙ signed-nearest s m e (w .1);
     }
 
 pub twice-product : (n : ℕ) (r : Float) → n ≤ 4096 → T (isCopyRatio r) → Twice (mul binary64 (whole n) r)

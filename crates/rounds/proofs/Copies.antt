@@ -115,7 +115,8 @@ pub nearest-most : (x : Float) (n : ℕ) → Within x n → nearest x ≤ n
 unfolding nearest
 nearest-most nan n w = absurd w
 nearest-most (inf s) n w = absurd w
-nearest-most (fin s m e) n w =
+nearest-most (fin true m e) n w = omega arith
+nearest-most (fin false m e) n w =
     let d = down e in
     le-of-suc-le-suc
     (div-lt-iff-lt-mul (mul-pos (lit< {m = 0} {n = 2} tt) (down-pos e))
