@@ -16,14 +16,16 @@ use Rattle.means.proofs.Fractions.{fraction, over, looser}
 use Rattle.means.proofs.Closeness.{Close, close-looser, close-over, once-more}
 use Rattle.means.proofs.Rounding.{value, rounded, mostWhole, Ranged, whole-before, rounded-positive, rounded-close}
 use Rattle.means.proofs.Operations.{plain-positive, div-whole, div-wholes}
-use Rattle.means.proofs.Shares.{reciprocal-sum, sum-least, sum-most}
+use Rattle.means.proofs.Shares.{reciprocal-sum, shares-some, sum-least, sum-most}
 use Rattle.means.proofs.Summing.{Summed, summed}
 
 -- the last rounding, of f: up to 2^23 units of 2^-55 are one part in 2^32
-scored : (e : ℕ) (f g : Fraction) → e ≤ 0x80_0000 → Ranged f → f .denominator ≤ f .numerator → Close e (value (rounded f)) g → Scores (rounded f) g
-scored e f g small r one c =
+scored : (e : ℕ) (f g : Fraction) → e ≤ 0x80_0000 → Ranged f → f .denominator ≤ f .numerator → 1 ≤ g .denominator → Close e (value (rounded f)) g
+    → Scores (rounded f) g
+scored e f g small r one exact c =
     let d = close-looser 0x80_0000 small c in
     record {
+      exact = exact;
       finite = rounded-positive r;
       at-least-one = whole-before r 1 (le-trans (le-of-eq (one-mul (f .denominator))) one);
       upper = looser _ _ (lit< tt) (lit≤ tt) (d .above) .cross;
@@ -41,7 +43,7 @@ module _ (cs : List ℕ) (C : Counters cs) (some : 1 ≤ length cs) (few : lengt
       let high = sum-most cs C in
       let r : Ranged (fraction s n) = record { some = some; least = omega arith; most = omega arith } in
       subst (λ (x : Float). Scores x (fraction s n)) (sym (div-wholes s n (omega arith) (omega arith) some (omega arith)))
-      (scored 4 (fraction s n) (fraction s n) (lit≤ tt) r low (rounded-close r))
+      (scored 4 (fraction s n) (fraction s n) (lit≤ tt) r low some (rounded-close r))
 
   -- n over the computed sum of reciprocals
   harmonic : Scores (mean Harmonic cs) (exactMean Harmonic cs)
@@ -56,7 +58,7 @@ module _ (cs : List ℕ) (C : Counters cs) (some : 1 ≤ length cs) (few : lengt
       let f = over n (value x) in
       let r : Ranged f = record { some = above; least = grow (num x) (n * den x) (s .most); most = much n (den x) (num x) few least } in
       subst (λ (z : Float). Scores z (over n b)) (sym (div-whole n x some (omega arith) (plain-positive x (s .finite) above)))
-      (scored (5 * n + 4 + 5) f (over n b) (omega arith) r (s .most) (once-more above (omega arith) (rounded-close r) (close-over n (s .close))))
+      (scored (5 * n + 4 + 5) f (over n b) (omega arith) r (s .most) (shares-some cs C some) (once-more above (omega arith) (rounded-close r) (close-over n (s .close))))
     where
       grow : (q a : ℕ) → q ≤ a → q ≤ a * 32768
       grow q a h = omega arith

@@ -1,9 +1,9 @@
 -- The exact sum of the reciprocals, one counter after the other, is the fraction of Means.antt: the sum of D/c over D.
--- And the least and the most that the sum of the counters can be.
+-- Neither is zero. And the least and the most that the sum of the counters can be.
 use mathlib.Core.Path.{_≡_, sym, ap, ap₂, _∙_}
 use mathlib.Core.List.{List, [], _∷_}
 use Prim.Native.Nat.{ℕ, _+_, _*_, _/_, _≤_}
-use native.Mathlib.Nat.{le-refl, mul-zero, mul-one, one-mul, mul-add, add-mul, add-assoc, mul-assoc, mul-left-comm, mul-div-cancel-left}
+use native.Mathlib.Nat.{le-refl, not-suc-le-zero, mul-zero, mul-one, one-mul, mul-add, add-mul, add-assoc, mul-assoc, mul-left-comm, mul-div-cancel-left, mul-pos}
 use native.Mathlib.Omega.{arith}
 use lib.ListN.{length}
 use Rattle.means.specs.Means.{Counters, Fraction, sum, product, shares}
@@ -51,6 +51,18 @@ reciprocal-sum cs C = is-shares (fraction 0 1) cs C ∙ ap₂ fraction (from-zer
     from-zero : (p s : ℕ) → 0 * p + 1 * s ≡ s
     from-zero p s = omega arith
 
+-- ---- both are above zero
+product-some : (cs : List ℕ) → Counters cs → 1 ≤ product cs
+unfolding product
+product-some [] C = le-refl 1
+product-some (c ∷ cs) C = mul-pos (C .0) (product-some cs (C .2))
+
+pub shares-some : (cs : List ℕ) → Counters cs → 1 ≤ length cs → 1 ≤ shares (product cs) cs
+unfolding shares product
+shares-some [] C some = absurd (not-suc-le-zero some)
+shares-some (c ∷ cs) C some = let p = product-some cs (C .2) in omega (arith, mul-div-cancel-left (product cs) (C .0))
+
+-- ---- the sum of the counters
 pub sum-least : (cs : List ℕ) → Counters cs → length cs ≤ sum cs
 unfolding sum
 sum-least [] C = le-refl 0

@@ -9,7 +9,7 @@ use lib.ListN.{length}
 use Rattle.means.specs.declared.MeanType.{MeanType}
 use Rattle.means.specs.declared.MeanType.the-variants.{Arithmetic, Harmonic}
 
--- every counter is from 1 to 32,768: 8 bytes of a word in each of 4,096 states
+-- every counter is from 1 to 32,768: in each of at most 4,096 states a cell occurs at most once for each of the eight byte numbers
 abbrev pub Counters : List ℕ → Type 0
 Counters [] = Unit {0}
 Counters (c ∷ cs) = (1 ≤ c) × (c ≤ 32768) × Counters cs
@@ -54,6 +54,8 @@ exactMean Harmonic cs = record { numerator = length cs * product cs; denominator
 
 -- the f64 x, whose value is num x / den x, is finite and above zero, at least 1, and within one part in 2^32 of the fraction f
 pub record Scores (x : Float) (f : Fraction) : Type 0 where
+  -- without which the bound would say nothing
+  pub exact : 1 ≤ f .denominator
   pub finite : T (positive x)
   pub at-least-one : T (le (whole 1) x)
   pub upper : num x * f .denominator * 0x1_0000_0000 ≤ f .numerator * den x * 0x1_0000_0001

@@ -1,7 +1,7 @@
--- The rows that take part: those whose flag is set are among them, and where all flags are set they are all rows.
+-- The rows that take part, at most all rows, and where all flags are set just these; and the scores of rows among them.
 use mathlib.Core.Path.{_≡_, refl, ap, _∙_}
 use mathlib.Core.Bool.{Bool, true, false, cond}
-use mathlib.Core.List.{List, [], _∷_, map, List·Memᴰ, List·Memᴰ·head, List·Memᴰ·tail}
+use mathlib.Core.List.{List, [], _∷_, map}
 use Prim.Native.Nat.{ℕ, zero, suc, _≤_, _<_}
 use native.Mathlib.Nat.{le-of-suc-le-suc, not-suc-le-zero}
 use native.Mathlib.Omega.{arith}
@@ -22,17 +22,7 @@ taking-length (f ∷ fs) [] = lit≤ tt
 taking-length (true ∷ fs) (r ∷ rows) = omega (arith, taking-length fs rows)
 taking-length (false ∷ fs) (r ∷ rows) = omega (arith, taking-length fs rows)
 
-pub flagged-among : (flags : List Bool) (rows : List Row) (i : ℕ) → i < length rows → getD flags i false ≡ true
-    → List·Memᴰ (rowAt rows i) (taking flags rows)
-unfolding taking
-flagged-among flags [] i h e = absurd (not-suc-le-zero h)
-flagged-among [] (r ∷ rows) i h e = let z : _≡_ {A = ℕ} 0 1 = cc in absurd (omega arith)
-flagged-among (true ∷ fs) (r ∷ rows) zero h e = List·Memᴰ·head refl
-flagged-among (true ∷ fs) (r ∷ rows) (suc i) h e = List·Memᴰ·tail (flagged-among fs rows i (le-of-suc-le-suc h) e)
-flagged-among (false ∷ fs) (r ∷ rows) zero h e = let z : _≡_ {A = ℕ} 0 1 = cc in absurd (omega arith)
-flagged-among (false ∷ fs) (r ∷ rows) (suc i) h e = flagged-among fs rows i (le-of-suc-le-suc h) e
-
-pub taking-all : (rows : List Row) (n : ℕ) → length rows ≡ n → taking (replicate n true) rows ≡ rows
+taking-all : (rows : List Row) (n : ℕ) → length rows ≡ n → taking (replicate n true) rows ≡ rows
 unfolding taking
 taking-all [] zero e = refl
 taking-all [] (suc n) e = refl

@@ -2,23 +2,22 @@
 use mathlib.Core.List.{List, [], _∷_, map, List·Memᴰ, List·Memᴰ·head, List·Memᴰ·tail}
 use mathlib.Core.Path.{_≡_, refl}
 use mathlib.Core.Bool.{Bool, true, false}
-use Prim.Native.Nat.{ℕ, _≤_, _<_}
+use Prim.Native.Nat.{ℕ, _*_, _≤_}
+use native.Mathlib.Nat.{le-refl}
 use native.Mathlib.Omega.{arith}
 use lib.Dec.{T}
-use lib.Ieee.{le, nan}
-use lib.Ieee.Positive.{positive}
-use lib.ListN.{length, getD, length-map}
+use lib.Ieee.{Float, le}
+use lib.Ieee.Positive.{num, den, positive, cross→le}
+use lib.ListN.{length, length-map}
 use Rattle.rows.specs.Rows.{Row}
-use Rattle.store.specs.Store.{rowAt}
 use Rattle.means.specs.declared.MeanType.{MeanType}
 use Rattle.means.specs.Means.{Counters, Scores, AtMost, exactMean}
 use Rattle.means.proofs.Bound.{bounded}
 use Rattle.means.proofs.Ruler.{ruler}
 use Rattle.counting.specs.Cells.{addressesOf}
-use Rattle.counting.specs.Counters.{counterIn, countersOf, taking}
+use Rattle.counting.specs.Counters.{counterIn, countersOf}
 use Rattle.counting.proofs.Bounds.{addresses-length, counter-least, counter-most}
-use Rattle.rarity.specs.Scores.{score, flaggedScores}
-use Rattle.rarity.proofs.Among.{taking-length, flagged-among, score-at}
+use Rattle.rarity.specs.Scores.{score, scoresOf, areOrdered}
 
 map-counters : (f : ℕ → ℕ) (xs : List ℕ) → ((x : ℕ) → List·Memᴰ x xs → 1 ≤ f x) → ((x : ℕ) → f x ≤ 32768) → Counters (map f xs)
 map-counters f [] low high = tt
@@ -44,10 +43,20 @@ module _ (rows : List Row) (few : length rows ≤ 4096) where
   ruler-of m {q} {r} i j a b order =
       ruler (score m rows q) (score m rows r) (exactMean m (countersOf rows q)) (exactMean m (countersOf rows r)) (scored m i a) (scored m j b) order
 
--- of the scores that score_rows writes, those of the rows that take part
-pub flagged-scored : (m : MeanType) (flags : List Bool) (rows : List Row) (i : ℕ) → length rows ≤ 4096 → i < length flags → i < length rows
-    → getD flags i false ≡ true → length (rowAt rows i .marks) ≤ 131104
-    → Scores (getD (flaggedScores m flags rows) i nan) (exactMean m (countersOf (taking flags rows) (rowAt rows i)))
-flagged-scored m flags rows i few h g on short =
-    rw (score-at m (taking flags rows) flags rows i h g, on)
-    (scored (taking flags rows) (omega (arith, taking-length flags rows)) m (flagged-among flags rows i g on) short)
+-- ---- scores above zero can be ordered
+holds : (b : Bool) → T b → b ≡ true
+holds true t = refl
+holds false t = absurd t
+
+above-ordered : (f : Row → Float) (rows : List Row) → ((r : Row) → List·Memᴰ r rows → T (positive (f r))) → areOrdered (map f rows) ≡ true
+unfolding areOrdered
+above-ordered f [] above = refl
+above-ordered f (r ∷ rows) above =
+    let x = f r in
+    let p = above r (List·Memᴰ·head refl) in
+    rw (holds (le x x) (cross→le x x p p (le-refl (num x * den x))), above-ordered f rows (λ q i. above q (List·Memᴰ·tail i)))
+
+-- so 31 is not given
+pub scores-ordered : (m : MeanType) (rows : List Row) → length rows ≤ 4096 → ((r : Row) → List·Memᴰ r rows → length (r .marks) ≤ 131104)
+    → areOrdered (scoresOf m rows) ≡ true
+scores-ordered m rows few short = above-ordered (score m rows) rows (λ r i. scores-positive rows few m i (short r i))

@@ -12,12 +12,11 @@ use Rattle.rounds.specs.Calls.{Call}
 use Rattle.rounds.specs.Demand.{All, nil, Fair, FairRound, Demand}
 use Rattle.rounds.specs.Rounds.{Start, beginning, copies, tapeShort, filled, usedAfter, rowAfter, stateOf, chosenOf, goes, ranOn, roundOf}
 use Rattle.rounds.proofs.Every.{every}
-use Rattle.rounds.proofs.Exact.{exact-some}
 use Rattle.rounds.proofs.Filling.{filled-length, new-proper}
 use Rattle.rounds.proofs.Fronts.{front, leaves}
 use Rattle.rounds.proofs.Handing.{running, running-all, kept-chosen, kept-all}
-use Rattle.rounds.proofs.Keeping.{each-once, as-many, goes-on, rarest-kept}
-use Rattle.rounds.proofs.Lists.{all-with, all-among}
+use Rattle.rounds.proofs.Keeping.{each-once, as-many, goes-on, all-exact, rarest-kept}
+use Rattle.rounds.proofs.Lists.{all-with}
 use Rattle.rounds.proofs.Proper.{Proper, not-zero}
 use Rattle.rounds.proofs.Running.{run-all-length, run-proper, still-running-length}
 
@@ -44,6 +43,12 @@ module _ (c : Call) (sized : Sized (c .layout)) (ratio : T (isCopyRatio (c .opti
     running-few : length (running c s) ≤ c .layout .rows
     running-few = let n = still-running-length (roundOf c s .runs) in omega (arith, runs-length)
 
+    few : length (running c s) ≤ 4096
+    few = omega (arith, running-few, sized .few)
+
+    short : All (λ r. length (r .marks) ≤ 131104) (running c s)
+    short = all-with (λ r h. omega (arith, h .marks, sized .memory)) running-proper
+
     module _ (next : Start) (e : roundOf c s .after ≡ goes next) where
       kept : next .kept ≡ map stateOf (chosenOf (c .options) (running c s) .kept)
       kept = kept-chosen c s next e
@@ -57,15 +62,13 @@ module _ (c : Call) (sized : Sized (c .layout)) (ratio : T (isCopyRatio (c .opti
       pub handed-on : Ready c next
       handed-on = record { proper = kept-proper; few = omega (arith, kept-as-many, running-few) }
 
-      pub fair : Fair c (roundOf c s) next
+      fair : Fair c (roundOf c s) next
       fair =
           record {
             each-once = rw kept (each-once c (running c s));
             as-many = kept-as-many;
-            exact = all-with (λ r i. exact-some (running c s) (omega (arith, running-few, sized .few)) (c .options .mean) i) (all-among (running c s));
-            rarest =
-                rw kept
-                (rarest-kept c (running c s) (omega (arith, running-few, sized .few)) (all-with (λ r h. omega (arith, h .marks, sized .memory)) running-proper));
+            exact = all-exact c (running c s) few short;
+            rarest = rw kept (rarest-kept c (running c s) few short);
             not-zero = all-with (λ r h. not-zero sized h) kept-proper;
           }
 
@@ -76,8 +79,7 @@ module _ (c : Call) (sized : Sized (c .layout)) (ratio : T (isCopyRatio (c .opti
         let runs = roundOf c s .runs in
         let used = usedAfter (s .used + copies c s) runs in
         let next : Start = record { kept = map stateOf (chosenOf (c .options) (running c s) .kept); used = used } in
-        let e : roundOf c s .after ≡ goes next = rw quiet
-        (goes-on c (running c s) (omega (arith, running-few, sized .few)) (all-with (λ r h. omega (arith, h .marks, sized .memory)) running-proper) (map rowAfter runs) used) in
+        let e : roundOf c s .after ≡ goes next = rw quiet (goes-on c (running c s) few short (map rowAfter runs) used) in
         record { next = next; goes-on = e; fair = fair next e }
 
 -- a store and a copy ratio that document 01 allows are all that is asked of a call

@@ -2,27 +2,25 @@
 use mathlib.Core.Bool.{Bool, true, false, cond}
 use mathlib.Core.List.{List, [], _∷_, _++_, map, map-append, List·Memᴰ}
 use mathlib.Core.Path.{_≡_, refl, ap, _∙_}
-use Prim.Native.Nat.{ℕ, min, _*_, _≤_}
-use native.Mathlib.Nat.{le-refl}
+use Prim.Native.Nat.{ℕ, min, _≤_}
 use native.Mathlib.Omega.{arith}
 use lib.Dec.{T}
-use lib.Ieee.{Float, le}
-use lib.Ieee.Positive.{num, den, positive, cross→le}
+use lib.Ieee.Positive.{positive}
 use lib.ListN.{length, length-map}
 use Rattle.rows.specs.Rows.{Row}
 use Rattle.counting.specs.Counters.{countersOf}
 use Rattle.means.specs.declared.MeanType.{MeanType}
 use Rattle.means.specs.Means.{exactMean, AtMost}
 use Rattle.rarity.specs.Scores.{score, scoresOf, areOrdered}
-use Rattle.rarity.proofs.Bounds.{scores-positive, ruler-of}
+use Rattle.rarity.proofs.Bounds.{scored, scores-positive, scores-ordered, ruler-of}
 use Rattle.rounds.specs.declared.finding.Finding.{Finding}
 use Rattle.rounds.specs.declared.finding.Finding.the-variants.{Nothing, Found, Failed, TapeShort, ScoresUnordered}
 use Rattle.rounds.specs.Calls.{Call}
-use Rattle.rounds.specs.Demand.{Permutation, All, nil, cons}
+use Rattle.rounds.specs.Demand.{Permutation, All}
 use Rattle.rounds.specs.Rounds.{Start, Ranked, stateOf, rankedAmong, lower, chosenOf, After, goes, endsOr, selected}
 use Rattle.rounds.proofs.Choosing.{rarest-each-once, rarest-as-many, rarest-lowest}
 use Rattle.rounds.proofs.Floats.{lt-irreflexive, lt-transitive, not-lt-le}
-use Rattle.rounds.proofs.Lists.{permutation-map, all-permuted, all-left, all-right, all-with, all-both, all-among, all-map}
+use Rattle.rounds.proofs.Lists.{permutation-map, all-permuted, all-left, all-right, all-mem, all-with, all-both, all-among, all-map}
 
 -- ---- a round that goes on keeps what is chosen
 either : {A : Type 0} {x y z : After} (b : Bool) → cond b x y ≡ z → (x ≡ z → A) → (y ≡ z → A) → A
@@ -65,16 +63,6 @@ module _ (c : Call) (rows : List Row) where
       ∙ rarest-as-many lower _ ranked
       ∙ ap (min _) (length-map rows (rankedAmong (c .options .mean) rows))
 
--- ---- scores above zero can be ordered
-holds : (b : Bool) → T b → b ≡ true
-holds true t = refl
-holds false t = absurd t
-
-ordered : {l : List Float} → All (λ s. T (positive s)) l → areOrdered l ≡ true
-unfolding areOrdered
-ordered nil = refl
-ordered (cons {x = s} p ps) = rw (holds (le s s) (cross→le s s p p (le-refl (num s * den s))), ordered ps)
-
 -- few rows of few marks: their scores are above zero and a ruler for the exact means
 module _ (c : Call) (rows : List Row) (few : length rows ≤ 4096) (short : All (λ r. length (r .marks) ≤ 131104) rows) where
   abbrev m : MeanType
@@ -93,12 +81,15 @@ module _ (c : Call) (rows : List Row) (few : length rows ≤ 4096) (short : All 
   all-scored =
       all-map (rankedAmong m rows) (all-with (λ r h. record { among = h .0; small = h .1; rank = refl }) (all-both (all-among rows) short))
 
-  -- so 31 is not given, and the round goes on with what is chosen
+  -- 31 is not given, so the round goes on with what is chosen
   pub goes-on : (left : List Row) (used : ℕ)
       → selected (c .options) left used rows ≡ goes (record { kept = map stateOf (chosenOf (c .options) rows .kept); used = used })
   unfolding selected
-  goes-on left used =
-      rw (ordered (all-map (score m rows) (all-with (λ r h. scores-positive rows few m (h .0) (h .1)) (all-both (all-among rows) short))))
+  goes-on left used = rw (scores-ordered m rows few (λ r i. all-mem i short))
+
+  -- no exact mean has a zero denominator
+  pub all-exact : All (λ r. 1 ≤ exactMean m (countersOf rows r) .denominator) rows
+  all-exact = all-with (λ r h. scored rows few m (h .0) (h .1) .exact) (all-both (all-among rows) short)
 
   abbrev Rarer : Row → Row → Type 0
   Rarer q r = AtMost (exactMean m (countersOf rows q)) (exactMean m (countersOf rows r))

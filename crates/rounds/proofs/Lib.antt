@@ -5,7 +5,6 @@ pub mod Copies
 pub mod Proper
 pub mod Filling
 pub mod Running
-pub mod Exact
 pub mod Keeping
 pub mod Handing
 pub mod Every

@@ -52,6 +52,10 @@ module _ {A : Type 0} {P : A → Type 0} where
   all-at (x ∷ l) zero d h (cons p ps) = p
   all-at (x ∷ l) (suc i) d h (cons p ps) = all-at l i d (le-of-suc-le-suc h) ps
 
+  pub all-mem : {x : A} {l : List A} → List·Memᴰ x l → All P l → P x
+  all-mem (List·Memᴰ·head e) (cons p ps) = rw e p
+  all-mem (List·Memᴰ·tail i) (cons p ps) = all-mem i ps
+
   pub all-replicate : (n : ℕ) (x : A) → P x → All P (replicate n x)
   all-replicate zero x p = nil
   all-replicate (suc n) x p = cons p (all-replicate n x p)

@@ -5,6 +5,7 @@ ghost use lib.ListN.{length};
 ghost use Rattle.store.specs.Store.{Fit, rowsOf};
 ghost use Rattle.rarity.specs.Scores.{scoresOf, areOrdered};
 ghost use Rattle.scoring.specs.Entry.{allValid, sizesThen, scoringChecked, orderedAnswer, scoringAnswer, scoresLeft, storeScores, scoringNumber};
+ghost use Rattle.scoring.specs.Entry.{AlwaysScored, ScoresBounded};
 use checks::refusal::Checked;
 use checks::refusal::Refusal;
 use checks::refusal::are_lengths;
@@ -136,7 +137,12 @@ pub fn score_with_mean(
     mean: MeanType,
     scores: &mut [f64],
 ) -> ScoringAnswer
-    ensures { λ r. ⌜ r ≡ scoringAnswer (scoringChecked memory log rows (now (words .entry)) (now (marks .entry)) (now (scores .entry))) (storeScores memory log rows mean (now (words .entry)) (now (marks .entry))) ⌝ ∗ ⌜ now (scores .exit) ≡ scoresLeft r (storeScores memory log rows mean (now (words .entry)) (now (marks .entry))) (now (scores .entry)) ⌝ }
+    ensures { λ r. ⌜ r ≡ scoringAnswer (scoringChecked memory log rows (now (words .entry)) (now (marks .entry)) (now (scores .entry)))
+        (storeScores memory log rows mean (now (words .entry)) (now (marks .entry))) ⌝ }
+    ensures { λ r. ⌜ now (scores .exit)
+        ≡ scoresLeft r (storeScores memory log rows mean (now (words .entry)) (now (marks .entry))) (now (scores .entry)) ⌝ }
+    ensures { λ r. ⌜ AlwaysScored memory log rows (now (words .entry)) (now (marks .entry)) (now (scores .entry)) r ⌝ }
+    ensures { λ _. ⌜ ScoresBounded memory log rows mean (now (words .entry)) (now (marks .entry)) (now (scores .entry)) (now (scores .exit)) ⌝ }
 {
     let sizes = check_sizes(words, marks, memory, log, rows, scores.len());
     match sizes {

@@ -1,6 +1,7 @@
 -- What crosses to C and Rust: numbers and flat structs, each equal to what the entries' definitions say.
 use mathlib.Core.Bool.{cond}
 use mathlib.Core.List.{List}
+use mathlib.Core.Path.{_≡_}
 use Prim.Native.Nat.{ℕ}
 use lib.Dec.{eqb, leb}
 use lib.Ieee.{Float}
@@ -111,3 +112,7 @@ scoreLeft memory log rows mean words marks scores = let computed = scoring.store
     cond (leb mean 1)
     (scoresBy (scoring.scoringAnswer (scoring.scoringChecked memory log rows words marks scores) computed) computed scores)
     (scoresWith scores unknownMean)
+
+-- of a call that is not refused: its number is 0, and 31 is never given
+abbrev pub AlwaysScored : ℕ → ℕ → ℕ → List ℕ → List ℕ → List Float → ℕ → Type 0
+AlwaysScored memory log rows words marks scores number = scoring.scoringChecked memory log rows words marks scores ≡ checked.Accepted → number ≡ 0

@@ -1,11 +1,14 @@
 // Tavvinur for hosts in C and Rust: the proved entries as flat functions. Nothing is asked of the caller but that slices are what they say.
 ghost use mathlib.Core.Path.{_≡_};
+ghost use Prim.Native.Nat.{_≤_};
 ghost use Rattle.rows.specs.Rows.{row};
 ghost use Rattle.loader.specs.Loading.{segment, program};
 ghost use Rattle.executor.specs.Entries.{creationChecked, createdRow};
 ghost use Rattle.rounds.specs.Defaults.{defaultOptions};
 ghost use Rattle.tavvinur.specs.Flat.{meanOf, meanNumber, optionsOf, flatOf, checkedNumber, refused, ofRun, ofSearch};
-ghost use Rattle.tavvinur.specs.Flat.{left, runLeft, searchLeft, scoresWith, scoreLeft};
+ghost use Rattle.scoring.specs.Entry.{ScoresBounded};
+ghost use Rattle.search.specs.Entry.{Demanded};
+ghost use Rattle.tavvinur.specs.Flat.{left, runLeft, searchLeft, scoresWith, scoreLeft, AlwaysScored};
 use checks::refusal::Checked;
 use executor::RunAnswer;
 use means::MeanType;
@@ -185,7 +188,11 @@ pub extern "C" fn tavvinur_score(
     mean: u32,
     scores: &mut [f64],
 ) -> u64
-    ensures { λ r. ⌜ scoresWith (now (scores .exit)) r ≡ scoreLeft memory log rows mean (now (words .entry)) (now (marks .entry)) (now (scores .entry)) ⌝ }
+    ensures { λ r. ⌜ scoresWith (now (scores .exit)) r
+        ≡ scoreLeft memory log rows mean (now (words .entry)) (now (marks .entry)) (now (scores .entry)) ⌝ }
+    ensures { λ r. ⌜ (mean ≤ 1 → AlwaysScored memory log rows (now (words .entry)) (now (marks .entry)) (now (scores .entry)) r) ⌝ }
+    ensures { λ _. ⌜ (mean ≤ 1 → ScoresBounded memory log rows (meanOf mean) (now (words .entry)) (now (marks .entry)) (now (scores .entry))
+        (now (scores .exit))) ⌝ }
 {
     if mean > MOST_MEAN {
         return UNKNOWN_MEAN;
@@ -207,7 +214,12 @@ pub extern "C" fn tavvinur_search(
     data: &[u8],
     tape: &[u64],
 ) -> Answer
-    ensures { λ r. ⌜ left (now (words .exit)) (now (marks .exit)) r ≡ searchLeft options log (program (segment «code_address» (now (code .entry))) (segment «data_address» (now («data» .entry)))) (now (tape .entry)) (now (words .entry)) (now (marks .entry)) ⌝ }
+    ensures { λ r. ⌜ left (now (words .exit)) (now (marks .exit)) r
+        ≡ searchLeft options log (program (segment «code_address» (now (code .entry))) (segment «data_address» (now («data» .entry))))
+        (now (tape .entry)) (now (words .entry)) (now (marks .entry)) ⌝ }
+    ensures { λ _. ⌜ (options .mean ≤ 1
+        → Demanded (optionsOf options) log (program (segment «code_address» (now (code .entry))) (segment «data_address» (now («data» .entry))))
+        (now (tape .entry)) (now (words .entry)) (now (marks .entry))) ⌝ }
 {
     if options.mean > MOST_MEAN {
         return refused(UNKNOWN_MEAN);

@@ -3,6 +3,7 @@ use mathlib.Core.Path.{refl, _∙_}
 use borrow.Author.Needs.{needs}
 use Rattle.scoring.specs.Entry.{scoresLeft}
 use Rattle.scoring.proofs.Accepted.{sizes-accepted, valid-answer, invalid-answer, refused-answer}
+use Rattle.scoring.proofs.Scored.{promised}
 use Rattle.scoring.proofs.score_with_mean.Statement.{statement}
 use Rattle.scoring.proofs.score_with_mean.Tie as tie
 
@@ -48,7 +49,8 @@ returns c =
     let z = sizes-accepted (a .memory) (a .log) (a .rows) (a .words .now) (a .marks .now) (a .scores .now) _
     (t .before .before .check-sizes .ensures) (t .enum-told .given .1) in
     let x = rw n at (c .before .before .score-store .ensures) in
-    (x .0 ∙ valid-answer _ _ _ _ _ _ z n (i .before .all-valid .ensures) _ (i .if1 .taken), x .1)
+    promised (a .memory) (a .log) (a .rows) (a .mean) (a .words .now) (a .marks .now) (a .scores .now)
+    (x .0 ∙ valid-answer _ _ _ _ _ _ z n (i .before .all-valid .ensures) _ (i .if1 .taken)) (x .1)
 
 returns-2 : tie.Need-returns-2
 unfolding scoresLeft
@@ -56,11 +58,15 @@ returns-2 c =
     let a = c .before .before .before .before .before .before .before .before .before .args in
     let z = sizes-accepted (a .memory) (a .log) (a .rows) (a .words .now) (a .marks .now) (a .scores .now) _
     (c .before .before .before .before .before .check-sizes .ensures) (c .before .before .before .enum-told .given .1) in
-    (invalid-answer _ _ _ _ _ _ z (c .before .before .new .ensures) (c .before .all-valid .ensures) _ (c .if1 .left), refl)
+    promised (a .memory) (a .log) (a .rows) (a .mean) (a .words .now) (a .marks .now) (a .scores .now)
+    (invalid-answer _ _ _ _ _ _ z (c .before .before .new .ensures) (c .before .all-valid .ensures) _ (c .if1 .left)) refl
 
 returns-3 : tie.Need-returns-3
 unfolding scoresLeft
-returns-3 c = (refused-answer _ _ _ _ _ _ _ (c .before .before .before .check-sizes .ensures) (c .before .sizes .given .1), refl)
+returns-3 c =
+    let a = c .before .before .before .before .before .before .before .args in
+    promised (a .memory) (a .log) (a .rows) (a .mean) (a .words .now) (a .marks .now) (a .scores .now)
+    (refused-answer _ _ _ _ _ _ _ (c .before .before .before .check-sizes .ensures) (c .before .sizes .given .1)) refl
 
 pub score-with-mean-spec : {M : Type 1} → statement M
 score-with-mean-spec =

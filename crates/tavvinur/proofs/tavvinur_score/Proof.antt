@@ -1,10 +1,14 @@
 use borrow.Author.Tests.{le-leb, lt-leb}
 use borrow.Author.Needs.{needs}
+use mathlib.Core.Path.{_∙_}
+use native.Mathlib.Omega.{arith}
 use Rattle.tavvinur.proofs.tavvinur_score.Statement.{statement}
 use Rattle.tavvinur.proofs.tavvinur_score.Tie as tie
 
 returns : tie.Need-returns
-returns c = rw (lt-leb _ _ (c .if1 .taken))
+returns c =
+    let above = c .if1 .taken in
+    (rw (lt-leb _ _ above), (λ h. absurd (omega (arith, above)), λ h. absurd (omega (arith, above))))
 
 mean-of-requires : tie.Need-mean-of-requires
 mean-of-requires c κs = search needs
@@ -19,7 +23,12 @@ same-length : tie.Need-same-length
 same-length c = search needs
 
 returns-2 : tie.Need-returns-2
-returns-2 c = rw (le-leb _ _ (c .before .before .before .before .before .before .if1 .left), c .number .ensures, ← c .before .before .before .before .before .mean-of .ensures, ← c .before .before .before .score-with-mean .ensures .0, c .before .before .before .score-with-mean .ensures .1)
+returns-2 c =
+    let mean = c .before .before .before .before .before .mean-of .ensures in
+    let scored = c .before .before .before .score-with-mean .ensures in (
+      rw (le-leb _ _ (c .before .before .before .before .before .before .if1 .left), c .number .ensures, ← mean, ← scored .0, scored .1 .0),
+      (λ _ h. c .number .ensures ∙ rw (scored .1 .1 .0 h), λ _. rw (← mean) (scored .1 .1 .1)),
+    )
 
 pub tavvinur-score-spec : {M : Type 1} → statement M
 tavvinur-score-spec =

@@ -1,5 +1,6 @@
 use borrow.Author.Tests.{le-leb, lt-leb}
 use borrow.Author.Needs.{needs}
+use native.Mathlib.Omega.{arith}
 use Rattle.tavvinur.proofs.tavvinur_search.Statement.{statement}
 use Rattle.tavvinur.proofs.tavvinur_search.Tie as tie
 
@@ -7,7 +8,9 @@ refused-requires : tie.Need-refused-requires
 refused-requires c κs = search needs
 
 returns : tie.Need-returns
-returns c = rw (lt-leb (c .before .before .before .before .before .before .before .before .args .options .mean) 1 (c .before .if1 .taken), c .refused .ensures)
+returns c =
+    let above = c .before .if1 .taken in
+    (rw (lt-leb (c .before .before .before .before .before .before .before .before .args .options .mean) 1 above, c .refused .ensures), λ h. absurd (omega (arith, above)))
 
 options-of-requires : tie.Need-options-of-requires
 options-of-requires c κs = search needs
@@ -25,7 +28,12 @@ same-length-2 : tie.Need-same-length-2
 same-length-2 c = search needs
 
 returns-2 : tie.Need-returns-2
-returns-2 c = rw (le-leb _ _ (c .before .before .before .before .before .before .before .before .before .if1 .left), c .of-search .ensures, ← c .before .before .before .before .before .before .options-of .ensures, ← c .before .before .before .before .before .search-for-bugs .ensures .0)
+returns-2 c =
+    let options = c .before .before .before .before .before .before .options-of .ensures in
+    let searched = c .before .before .before .before .before .search-for-bugs .ensures in (
+      rw (le-leb _ _ (c .before .before .before .before .before .before .before .before .before .if1 .left), c .of-search .ensures, ← options, ← searched .0),
+      λ _. rw options at (searched .1),
+    )
 
 pub tavvinur-search-spec : {M : Type 1} → statement M
 tavvinur-search-spec =
