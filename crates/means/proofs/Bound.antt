@@ -58,7 +58,8 @@ module _ (cs : List ℕ) (C : Counters cs) (some : 1 ≤ length cs) (few : lengt
       let f = over n (value x) in
       let r : Ranged f = record { some = above; least = grow (num x) (n * den x) (s .most); most = much n (den x) (num x) few least } in
       subst (λ (z : Float). Scores z (over n b)) (sym (div-whole n x some (omega arith) (plain-positive x (s .finite) above)))
-      (scored (5 * n + 4 + 5) f (over n b) (omega arith) r (s .most) (shares-some cs C some) (once-more above (omega arith) (rounded-close r) (close-over n (s .close))))
+      (scored (5 * n + 4 + 5) f (over n b) (omega arith) r (s .most) (shares-some cs C some)
+      (once-more above (omega arith) (rounded-close r) (close-over n (s .close))))
     where
       grow : (q a : ℕ) → q ≤ a → q ≤ a * 32768
       grow q a h = omega arith

@@ -3,7 +3,8 @@
 use mathlib.Core.Path.{_≡_, sym, ap, ap₂, _∙_}
 use mathlib.Core.List.{List, [], _∷_}
 use Prim.Native.Nat.{ℕ, _+_, _*_, _/_, _≤_}
-use native.Mathlib.Nat.{le-refl, not-suc-le-zero, mul-zero, mul-one, one-mul, mul-add, add-mul, add-assoc, mul-assoc, mul-left-comm, mul-div-cancel-left, mul-pos}
+use native.Mathlib.Nat.{le-refl, not-suc-le-zero, mul-pos, mul-zero, mul-one, one-mul, mul-add, add-mul, add-assoc, mul-assoc, mul-left-comm}
+use native.Mathlib.Nat.{mul-div-cancel-left}
 use native.Mathlib.Omega.{arith}
 use lib.ListN.{length}
 use Rattle.means.specs.Means.{Counters, Fraction, sum, product, shares}

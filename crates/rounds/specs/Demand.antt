@@ -47,12 +47,13 @@ pub record Fair (c : Call) (r : Round) (next : Start) : Type 0 where
   -- a kept row is not a zero row
   pub not-zero : All (λ x. x ≡ zeroRow (c .layout) → ⊥) (next .kept)
 
--- a round in which no row meets a bug or an error goes on, and is fair
+-- a round that goes on, and is fair
 pub record GoesOn (c : Call) (r : Round) : Type 0 where
   pub next : Start
   pub goes-on : r .after ≡ goes next
   pub fair : Fair c r next
 
+-- a round in which no row meets a bug or an error does
 abbrev pub FairRound : Call → Round → Type 0
 FairRound c r = outcomeOf (r .runs) ≡ Nothing → GoesOn c r
 

@@ -93,7 +93,8 @@ fn search_rounds(
 ) -> SearchAnswer
     requires { ⌜ Fit store (now words) (now marks) ⌝ ∗ ⌜ rowsOf store (now words) (now marks) ≡ replicate (store .rows) (zeroRow store) ⌝ ∗ ⌜ T (isCopyRatio (options .«copy_init_ratio»)) ⌝ ∗ ⌜ Fits (store .marks - 32) (segment «code_address» (now code)) ⌝ ∗ ⌜ Fits (store .marks - 32) (segment «data_address» (now «data»)) ⌝ }
     ensures { λ r. ⌜ searchedAs r (rowsOf store (now (words .exit)) (now (marks .exit)))
-        (searched (call options store (program (segment «code_address» (now (code .entry))) (segment «data_address» (now («data» .entry)))) (now (tape .entry)))) ⌝ }
+        (searched (call options store (program (segment «code_address» (now (code .entry))) (segment «data_address» (now («data» .entry))))
+        (now (tape .entry)))) ⌝ }
 {
     let mut kept = 0;
     let mut used = 0;

@@ -9,8 +9,9 @@ refused-requires c κs = search needs
 
 returns : tie.Need-returns
 returns c =
+    let mean = c .before .before .before .before .before .before .before .before .args .options .mean in
     let above = c .before .if1 .taken in
-    (rw (lt-leb (c .before .before .before .before .before .before .before .before .args .options .mean) 1 above, c .refused .ensures), λ h. absurd (omega (arith, above)))
+    (rw (lt-leb mean 1 above, c .refused .ensures), λ h. absurd (omega (arith, above)))
 
 options-of-requires : tie.Need-options-of-requires
 options-of-requires c κs = search needs
