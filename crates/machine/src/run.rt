@@ -19,7 +19,7 @@ use rows::row::DEPTH;
 use rows::row::LIMIT;
 use rows::row::PC;
 
-// What a run answers: still running (document 01's 22) or how it ended; the pc before the last instruction, or the
+// What a run answers: still running (number 22) or how it ended; the pc before the last instruction, or the
 // row's if it still runs; and how many tape words are used.
 pub struct Ran {
     pub progress: Progress,

@@ -104,7 +104,7 @@ fn j_type(word: u64) -> JType
     }
 }
 
-// Opcode 0x33: register with register. Most have funct7 0.
+// Opcode 0x33: register with register. funct7 says which group of operations it is, funct3 which of the group.
 fn decode_op(word: u64) -> Decoded
     ensures { λ r. ⌜ r ≡ decodedOp word ⌝ }
 {

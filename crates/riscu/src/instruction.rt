@@ -57,7 +57,7 @@ pub enum Instruction {
     Ecall,
 }
 
-// What a word decodes to. An invalid encoding is document 01's number 21.
+// What a word decodes to. An invalid encoding is number 21 (docs/NUMBERS.md).
 pub enum Decoded {
     Valid(Instruction),
     Invalid,
