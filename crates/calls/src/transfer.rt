@@ -12,13 +12,13 @@ use rows::row::REGISTERS;
 use rows::row::read_slot;
 
 // Registers by their names in the calling convention.
-pub const A0: usize = 10;
+pub(crate) const A0: usize = 10;
 
-pub const A1: usize = 11;
+const A1: usize = 11;
 
-pub const A2: usize = 12;
+const A2: usize = 12;
 
-pub const A7: usize = 17;
+pub(crate) const A7: usize = 17;
 
 pub enum Transfer {
     // address and size in bytes, all of it in memory

@@ -82,14 +82,14 @@ pub fn are_lengths(rows: u64, memory: u64, log: u64, words: u64, marks: u64) -> 
     words == rows * (FIXED_WORDS + memory + log) && marks == rows * (FIXED_MARKS + memory)
 }
 
-pub fn is_whole(bytes: u64) -> bool
+pub(crate) fn is_whole(bytes: u64) -> bool
     ensures { λ r. ⌜ r ≡ isWhole bytes ⌝ }
 {
     bytes % 8 == 0
 }
 
 // Whether a segment of so many bytes lies in a memory of `memory` words, or has none.
-pub fn is_inside(memory: u64, address: u64, bytes: u64) -> bool
+pub(crate) fn is_inside(memory: u64, address: u64, bytes: u64) -> bool
     ensures { λ r. ⌜ r ≡ isInside memory address bytes ⌝ }
 {
     bytes == 0 || address / 8 + bytes / 8 <= memory

@@ -105,7 +105,7 @@ fn hit(words: &[u64], marks: &[u8], cell: usize, byte: u64, b: u32) -> u64
 }
 
 // How often a row has a byte value in a cell.
-pub fn hits(words: &[u64], marks: &[u8], cell: usize, byte: u64) -> u64
+pub(crate) fn hits(words: &[u64], marks: &[u8], cell: usize, byte: u64) -> u64
     requires { ⌜ Shape (now words) (now marks) ⌝ ∗ ⌜ byte < 256 ⌝ }
     ensures { λ r. ⌜ r ≡ occurrences (addressOf cell byte) (addressesOf (row (now (words .entry)) (now (marks .entry)))) ⌝ ∗ ⌜ r ≤ 8 ⌝ }
 {

@@ -15,7 +15,7 @@ pub enum Op {
 }
 
 // a * b modulo 2^64, by halves of 32 bits: the product of the high halves does not reach the low 64 bits.
-pub fn wrapping_mul(a: u64, b: u64) -> u64
+fn wrapping_mul(a: u64, b: u64) -> u64
     ensures { λ r. ⌜ r ≡ mul a b ⌝ }
 {
     let half = 0x1_0000_0000;
@@ -26,7 +26,7 @@ pub fn wrapping_mul(a: u64, b: u64) -> u64
 }
 
 // The result of an operation; a zero divisor is the caller's to refuse, and gives what the definition gives.
-pub fn operate(op: Op, a: u64, b: u64) -> u64
+pub(crate) fn operate(op: Op, a: u64, b: u64) -> u64
     ensures { λ r. ⌜ r ≡ operated op a b ⌝ }
 {
     match op {

@@ -38,7 +38,7 @@ fn not_supported(reason: NotSupportedReason) -> Effect
 }
 
 // x0 is never written.
-pub fn assign_rd(rd: usize, value: Value, pc: u64) -> Effect
+fn assign_rd(rd: usize, value: Value, pc: u64) -> Effect
     ensures { λ r. ⌜ r ≡ assignOf rd value pc ⌝ }
 {
     if rd == 0 {
@@ -48,13 +48,13 @@ pub fn assign_rd(rd: usize, value: Value, pc: u64) -> Effect
     }
 }
 
-pub fn lui(rd: usize, imm: u64, pc: u64) -> Effect
+pub(crate) fn lui(rd: usize, imm: u64, pc: u64) -> Effect
     ensures { λ r. ⌜ r ≡ luiOf rd imm pc ⌝ }
 {
     assign_rd(rd, Value::Concrete(imm), next(pc))
 }
 
-pub fn binary_op(op: Op, rd: usize, pc: u64, a: Value, b: Value) -> Effect
+pub(crate) fn binary_op(op: Op, rd: usize, pc: u64, a: Value, b: Value) -> Effect
     ensures { λ r. ⌜ r ≡ binaryOp op rd pc a b ⌝ }
 {
     let Value::Concrete(x) = a else {
@@ -75,7 +75,7 @@ fn is_zero(v: Value) -> bool
     }
 }
 
-pub fn divu_remu(op: Op, rd: usize, pc: u64, a: Value, b: Value) -> Effect
+pub(crate) fn divu_remu(op: Op, rd: usize, pc: u64, a: Value, b: Value) -> Effect
     ensures { λ r. ⌜ r ≡ divuRemu op rd pc a b ⌝ }
 {
     if is_zero(b) {
@@ -87,7 +87,7 @@ pub fn divu_remu(op: Op, rd: usize, pc: u64, a: Value, b: Value) -> Effect
 
 // The immediate is put together only where the branch is taken: the compiler then makes a branch of it, and the next
 // fetch need not wait for the comparison.
-pub fn beq(word: u32, pc: u64, a: Value, b: Value) -> Effect
+pub(crate) fn beq(word: u32, pc: u64, a: Value, b: Value) -> Effect
     ensures { λ r. ⌜ r ≡ beqOf (immB word) pc a b ⌝ }
 {
     let Value::Concrete(x) = a else {
@@ -105,13 +105,13 @@ pub fn beq(word: u32, pc: u64, a: Value, b: Value) -> Effect
     }
 }
 
-pub fn jal(rd: usize, imm: u64, pc: u64) -> Effect
+pub(crate) fn jal(rd: usize, imm: u64, pc: u64) -> Effect
     ensures { λ r. ⌜ r ≡ jalOf rd imm pc ⌝ }
 {
     assign_rd(rd, Value::Concrete(next(pc)), wrapping_add_u64(pc, imm))
 }
 
-pub fn jalr(rd: usize, imm: u64, pc: u64, a: Value) -> Effect
+pub(crate) fn jalr(rd: usize, imm: u64, pc: u64, a: Value) -> Effect
     ensures { λ r. ⌜ r ≡ jalrOf rd imm pc a ⌝ }
 {
     let Value::Concrete(base) = a else {
@@ -155,7 +155,7 @@ fn load_from(address: u64, rd: usize, pc: u64, memory: u64) -> Effect
     }
 }
 
-pub fn ld(rd: usize, imm: u64, pc: u64, a: Value, memory: u64) -> Effect
+pub(crate) fn ld(rd: usize, imm: u64, pc: u64, a: Value, memory: u64) -> Effect
     ensures { λ r. ⌜ r ≡ ldOf rd imm pc a memory ⌝ }
 {
     let Value::Concrete(base) = a else {
@@ -178,7 +178,7 @@ fn store_to(address: u64, value: Value, pc: u64, memory: u64) -> Effect
     }
 }
 
-pub fn sd(imm: u64, pc: u64, a: Value, value: Value, memory: u64) -> Effect
+pub(crate) fn sd(imm: u64, pc: u64, a: Value, value: Value, memory: u64) -> Effect
     ensures { λ r. ⌜ r ≡ sdOf imm pc a value memory ⌝ }
 {
     let Value::Concrete(base) = a else {
