@@ -1,4 +1,4 @@
-// The bench program's work: from the bytes of a sheet to the printed bytes. For the programs bench and sheets; nothing is asked of the
+// The bench program's work: from the bytes of a sheet to the printed bytes. For the programs bench and replay_sheets; nothing is asked of the
 // caller.
 ghost use mathlib.Core.Path.{_≡_};
 ghost use mathlib.Core.List.{List, []};

@@ -1,0 +1,63 @@
+use Prim.Native.Nat.{_≤_, _-_}
+use mathlib.Core.Path.{_≡_}
+use lib.ListN.{length}
+use borrow.Author.Needs.{needs}
+use Rattle.replay_scores.proofs.runs.put_marks.Statement.{statement}
+use Rattle.replay_scores.proofs.runs.put_marks.Tie as tie
+
+abbrev Inv-loop : tie.InvT-loop
+Inv-loop numbers at runs marks₀ within₀ i₀ marks within i = (i ≤ runs) × (length marks ≡ length marks₀)
+
+abbrev μ-loop : tie.MeasureT-loop
+μ-loop numbers at runs marks₀ within₀ i₀ marks within i = runs - i
+
+loop-holds : tie.Need-loop-holds Inv-loop μ-loop
+loop-holds c = search needs
+
+mul-run-at : tie.Need-mul-run-at Inv-loop μ-loop
+mul-run-at c = search needs
+
+add-run-at : tie.Need-add-run-at Inv-loop μ-loop
+add-run-at c = search needs
+
+run-at-requires : tie.Need-run-at-requires Inv-loop μ-loop
+run-at-requires c κs = search needs
+
+cast-fill-marks : tie.Need-cast-fill-marks Inv-loop μ-loop
+cast-fill-marks c = search needs
+
+fill-marks-requires : tie.Need-fill-marks-requires Inv-loop μ-loop
+fill-marks-requires c κs = search needs
+
+add-i : tie.Need-add-i Inv-loop μ-loop
+add-i c = search needs
+
+loop-less : tie.Need-loop-less Inv-loop μ-loop
+loop-less c = search needs
+
+loop-again : tie.Need-loop-again Inv-loop μ-loop
+loop-again c = search needs
+
+same-length : tie.Need-same-length Inv-loop μ-loop
+same-length c = search needs
+
+returns : tie.Need-returns Inv-loop μ-loop
+returns c = search needs
+
+pub put-marks-spec : {M : Type 1} → statement M
+put-marks-spec =
+    tie.close
+    (tie.spec
+    Inv-loop
+    μ-loop
+    loop-holds
+    mul-run-at
+    add-run-at
+    run-at-requires
+    cast-fill-marks
+    fill-marks-requires
+    add-i
+    loop-less
+    loop-again
+    same-length
+    returns)

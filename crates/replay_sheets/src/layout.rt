@@ -1,0 +1,55 @@
+// Where the parts of a line stand: three numbers, the words of the sheet, and the words of what is printed.
+ghost use Prim.Native.Nat.{_≤_};
+use replay_lists::columns::is_length;
+use replay_lists::columns::length_at;
+
+// The length of the sheet and of what is printed are in bytes.
+const LENGTH: usize = 0;
+
+const STORED: usize = 1;
+
+const PRINTED: usize = 2;
+
+pub(crate) const SHEET: usize = 3;
+
+// The most that a line has, and the most bytes of a sheet: one more than the bench program takes.
+pub(crate) const MOST_NUMBERS: usize = 512;
+
+pub(crate) const MOST_SHEET: usize = 61441;
+
+pub(crate) const MOST_PRINTED: usize = 2048;
+
+pub(crate) const WORD_BYTES: usize = 8;
+
+pub(crate) struct Layout {
+    pub(crate) length: usize,
+    // words of the sheet that the line has
+    pub(crate) stored: usize,
+    // bytes that are printed
+    pub(crate) printed: usize,
+}
+
+pub(crate) fn layout_of(numbers: &[u64]) -> Layout
+    ensures { λ r. ⌜ (r .length ≤ 61441) × (r .stored ≤ 512) × (r .printed ≤ 2048) ⌝ }
+{
+    Layout {
+        length: length_at(numbers, LENGTH, MOST_SHEET),
+        stored: length_at(numbers, STORED, MOST_NUMBERS),
+        printed: length_at(numbers, PRINTED, MOST_PRINTED),
+    }
+}
+
+// Whether these are the lengths that the line says.
+fn are_lengths(numbers: &[u64], layout: Layout) -> bool {
+    is_length(numbers, LENGTH, layout.length)
+        && is_length(numbers, STORED, layout.stored)
+        && is_length(numbers, PRINTED, layout.printed)
+}
+
+// Whether the line has just so many numbers.
+pub(crate) fn is_whole(numbers: &[u64], layout: Layout) -> bool
+    requires { ⌜ (layout .stored ≤ 512) × (layout .printed ≤ 2048) ⌝ }
+{
+    let words = (layout.printed + WORD_BYTES - 1) / WORD_BYTES;
+    are_lengths(numbers, layout) && numbers.len() == SHEET + layout.stored + words
+}

@@ -1,0 +1,32 @@
+// The sheet of a line.
+ghost use Prim.Native.Nat.{_≤_, _<_};
+ghost use mathlib.Core.Path.{_≡_};
+ghost use lib.ListN.{length};
+use crate::layout::MOST_SHEET;
+use crate::layout::SHEET;
+use crate::layout::WORD_BYTES;
+use replay_lists::columns::byte_of;
+use replay_lists::columns::number_at;
+
+// The stored words are taken over and over, so that a short line can have a long sheet.
+fn sheet_byte(numbers: &[u64], stored: usize, place: usize) -> u8
+    requires { ⌜ (0 < stored) × (stored ≤ 512) ⌝ }
+{
+    byte_of(
+        number_at(numbers, SHEET + place / WORD_BYTES % stored),
+        (place % WORD_BYTES) as u64,
+    )
+}
+
+pub(crate) fn sheet_of(numbers: &[u64], stored: usize, bytes: usize) -> [u8; MOST_SHEET]
+    requires { ⌜ (0 < stored) × (stored ≤ 512) × (bytes ≤ 61441) ⌝ }
+    ensures { λ r. ⌜ 61441 ≡ length r ⌝ }
+{
+    let mut sheet = [0; MOST_SHEET];
+    let mut i = 0;
+    while i < bytes {
+        sheet[i] = sheet_byte(numbers, stored, i);
+        i += 1;
+    }
+    sheet
+}
