@@ -1,4 +1,4 @@
-//! Times libtavvinur.a against the Rust, on the same inputs. `host/bench/run` builds and runs it.
+//! Times libtavvinur.a against the Rust, on the same inputs. `host/timing/run` builds and runs it.
 //!
 //! The Rust's text is the oracle's, by links; only the hooks (`engine/rarity_simulation/view.rs`) are empty here, since the original
 //! has none. What is lent to Tavvinur is touched before a clock starts; the Rust allocates its states while the clock runs, since its search
