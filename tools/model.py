@@ -1,7 +1,7 @@
 """A model of the scope paper: one executor on its row, the entries over one row, scoring, whole searches, and sheets.
 
 A second reading of the paper that shares nothing with the Rattle code. The tools that make the lists in crates/*/data ask it
-what each case must come to.
+what each case must come to; mksheet and explain have from it what a sheet is, what refuses it, and the instructions.
 """
 import collections
 import fractions
@@ -61,19 +61,24 @@ TABLE = {
     "remu": (0x33, 7, 1),
 }
 ECALL = 0x00000073
+FORMATS = dict(zip(TABLE, "UJIBIISRRRRRR"))
+
+# Where the manual puts an immediate, by format: lowest bit, count of bits, place in the word.
+IMMEDIATES = {
+    "U": ((12, 20, 12),),
+    "J": ((1, 10, 21), (11, 1, 20), (12, 8, 12), (20, 1, 31)),
+    "I": ((0, 12, 20),),
+    "B": ((1, 4, 8), (5, 6, 25), (11, 1, 7), (12, 1, 31)),
+    "S": ((0, 5, 7), (5, 7, 25)),
+    "R": (),
+}
 
 
-def immediate(form, w):
-    """The manual's I, S, B, J and U immediates; lui's 20 bits are extended by zeros."""
-    if form in ("jalr", "addi", "ld"):
-        return signed(bits(w, 31, 20), 12)
-    if form == "sd":
-        return signed(bits(w, 31, 25) << 5 | bits(w, 11, 7), 12)
-    if form == "beq":
-        return signed(bits(w, 31, 31) << 12 | bits(w, 7, 7) << 11 | bits(w, 30, 25) << 5 | bits(w, 11, 8) << 1, 13)
-    if form == "jal":
-        return signed(bits(w, 31, 31) << 20 | bits(w, 19, 12) << 12 | bits(w, 20, 20) << 11 | bits(w, 30, 21) << 1, 21)
-    return bits(w, 31, 12) << 12 if form == "lui" else 0
+def immediate(form, word):
+    """The manual's immediates are extended by their sign; lui's 20 bits are extended by zeros."""
+    pieces = IMMEDIATES[FORMATS[form]]
+    value = sum(bits(word, place + count - 1, place) << low for low, count, place in pieces)
+    return value if form == "lui" or not pieces else signed(value, max(low + count for low, count, _ in pieces))
 
 
 def decode(word):
@@ -259,6 +264,9 @@ class Executor:
 
 # --- what entries refuse, and new rows ---
 
+# The most that they accept; memory in bytes, states and rows to score, words of a log.
+ENTRY_MEMORY, ENTRY_STATES, ENTRY_LOG = 1_048_576, 4096, 65_536
+
 
 def row_sizes(memory, log):
     """The words and marks of one row."""
@@ -267,13 +275,13 @@ def row_sizes(memory, log):
 
 def sizes_refused(memory, log, words, marks, rows=1, ratio=0.0):
     """Numbers 1 to 5; rows and ratio are those of entries that are told them."""
-    if memory % 1024 or not 1024 <= memory <= 1_048_576:
+    if memory % 1024 or not 1024 <= memory <= ENTRY_MEMORY:
         return 1
-    if not 1 <= rows <= 4096:
+    if not 1 <= rows <= ENTRY_STATES:
         return 2
     if not 0 <= ratio <= 1:
         return 3
-    if log > 65_536:
+    if log > ENTRY_LOG:
         return 4
     row_words, row_marks = row_sizes(memory, log)
     return 0 if (words, marks) == (rows * row_words, rows * row_marks) else 5
@@ -365,7 +373,8 @@ def score_entry(words, marks, memory, log, count, mean, lent_scores):
 # --- searches ---
 
 TAPE_SHORT = 8
-Options = collections.namedtuple("Options", "states step selection rounds ratio mean memory log")
+OPTION_FIELDS = "states step selection rounds ratio mean memory log"
+Options = collections.namedtuple("Options", OPTION_FIELDS)
 Found = collections.namedtuple("Found", "number row pc value used")
 
 
@@ -464,7 +473,10 @@ def search_entry(words, marks, options, segments, tape):
 
 # --- sheets ---
 
-FIELDS, FIELD_BYTES = 16, 128
+PART_FIELDS = "code_address code_offset code_length data_address data_offset data_length tape_offset tape_words"
+Header = collections.namedtuple("Header", f"{OPTION_FIELDS} {PART_FIELDS}")
+FIELDS = len(Header._fields)
+FIELD_BYTES = 8 * FIELDS
 MOST_SHEET_BYTES, MOST_STATES, MOST_MEMORY, MOST_LOG = 61_440, 8, 1024, 64
 SHEET_LENGTH, PART_PAST, MEAN_PAST, VALUE_PAST = 51, 52, 53, 54
 MOST_COUNT = 2**32 - 1
@@ -480,33 +492,49 @@ def float_of(word):
     return struct.unpack("<d", struct.pack("<Q", word))[0]
 
 
-# all ones in the first fields
-DEFAULTS = [3000, 1000, 50, 20, bits_of(0.6), HARMONIC, 1_048_576]
+# what all ones in the first fields stand for
+DEFAULTS = dict(states=3000, step=1000, selection=50, rounds=20, ratio=bits_of(0.6), mean=HARMONIC, memory=1_048_576)
 
 
 def fields_of(sheet):
     """The sixteen fields, with defaults put in."""
-    fields = list(struct.unpack(f"<{FIELDS}Q", sheet[:FIELD_BYTES]))
-    return [default if given == MASK else given for given, default in zip(fields, DEFAULTS)] + fields[len(DEFAULTS) :]
+    header = Header(*struct.unpack(f"<{FIELDS}Q", sheet[:FIELD_BYTES]))
+    return header._replace(**{name: default for name, default in DEFAULTS.items() if getattr(header, name) == MASK})
+
+
+def parts_of(header):
+    """Where each part of a sheet stands: its offset and its bytes."""
+    code, data = (header.code_offset, header.code_length), (header.data_offset, header.data_length)
+    return {"code": code, "data": data, "tape": (header.tape_offset, 8 * header.tape_words)}
+
+
+def parts_past(sheet, header):
+    """The parts that reach past the sheet."""
+    return [name for name, (offset, length) in parts_of(header).items() if offset + length > len(sheet)]
+
+
+def values_past(header, bench):
+    """The fields above what they may have, and the most of each."""
+    most = dict.fromkeys(("step", "selection", "rounds"), MOST_COUNT)
+    most |= dict(states=MOST_STATES, memory=MOST_MEMORY, log=MOST_LOG) if bench else {}
+    return [(name, limit) for name, limit in most.items() if getattr(header, name) > limit]
 
 
 def read_sheet(sheet, bench=True):
     """The number that refuses a sheet, else 0, and what the sheet asks for; the bench program's limits can be left out."""
     if len(sheet) < FIELD_BYTES or bench and len(sheet) > MOST_SHEET_BYTES:
         return SHEET_LENGTH, None
-    fields = fields_of(sheet)
-    states, step, selection, rounds, ratio, mean, memory, log = fields[:8]
-    code, code_at, code_length, data, data_at, data_length, tape_at, tape_words = fields[8:]
-    parts = [(code_at, code_length), (data_at, data_length), (tape_at, 8 * tape_words)]
-    if any(offset + length > len(sheet) for offset, length in parts):
+    header = fields_of(sheet)
+    if parts_past(sheet, header):
         return PART_PAST, None
-    if mean > HARMONIC:
+    if header.mean > HARMONIC:
         return MEAN_PAST, None
-    if max(step, selection, rounds) > MOST_COUNT or bench and (states > MOST_STATES or memory > MOST_MEMORY or log > MOST_LOG):
+    if values_past(header, bench):
         return VALUE_PAST, None
-    code_bytes, data_bytes, tape_bytes = (sheet[offset : offset + length] for offset, length in parts)
-    options = Options(states, step, selection, rounds, float_of(ratio), mean, memory, log)
-    return 0, Asked(options, [(code, code_bytes), (data, data_bytes)], list(struct.unpack(f"<{tape_words}Q", tape_bytes)))
+    code, data, tape = (sheet[offset : offset + length] for offset, length in parts_of(header).values())
+    options = Options(*header[: len(Options._fields)])._replace(ratio=float_of(header.ratio))
+    segments = [(header.code_address, code), (header.data_address, data)]
+    return 0, Asked(options, segments, list(struct.unpack(f"<{header.tape_words}Q", tape)))
 
 
 def lines_of(found, inputs=()):

@@ -1,123 +1,83 @@
-"""What a sheet is (docs/SHEETS.md) and how its instructions are encoded, for the tools that make and explain sheets."""
-import collections
-import struct
-
-MASK = 2**64 - 1
-
-FIELDS = ("states step selection rounds ratio mean memory log code_address code_offset code_length "
-          "data_address data_offset data_length tape_offset tape_words").split()
-Header = collections.namedtuple("Header", FIELDS)
-HEADER = struct.Struct("<16Q")
-
-MEANS = {"arithmetic": 0, "harmonic": 1}
-
-
-def bits_of(ratio):
-    return struct.unpack("<Q", struct.pack("<d", ratio))[0]
-
-
-def ratio_of(bits):
-    return struct.unpack("<d", struct.pack("<Q", bits))[0]
-
-
-# All ones in one of these fields stand for the Rust's default.
-DEFAULT = MASK
-DEFAULTS = {"states": 3000, "step": 1000, "selection": 50, "rounds": 20, "ratio": bits_of(0.6), "mean": 1, "memory": 2**20}
-
-# The bench program's own limits, and those of hosts over the library.
-SHEET_BYTES, STATES, MEMORY, LOG = 61440, 8, 1024, 64
-HOST_STATES, HOST_MEMORY, HOST_LOG = 4096, 2**20, 65536
-
-
-def header_of(sheet):
-    """The sixteen fields, the Rust's defaults put in."""
-    header = Header(*HEADER.unpack_from(sheet))
-    return header._replace(**{name: value for name, value in DEFAULTS.items() if getattr(header, name) == DEFAULT})
-
-
-def part(sheet, offset, length):
-    return sheet[offset:offset + length]
+"""Why a sheet is refused, in words, and how its instructions are written and encoded, for the tools that make and explain sheets.
+What a sheet is, what refuses it and what the instructions are, tools/model.py says."""
+import model
+from model import ECALL, ENTRY_LOG, ENTRY_MEMORY, ENTRY_STATES, FIELD_BYTES, FORMATS, IMMEDIATES, MOST_SHEET_BYTES, TABLE
+from model import MEAN_PAST, PART_PAST, SHEET_LENGTH
 
 
 def refusal(sheet, host=False):
-    """The number by which the bench program, or a host, refuses a sheet and what is wrong with it, or None.
-    In the order of docs/NUMBERS.md."""
-    if len(sheet) < HEADER.size:
-        return 51, f"{len(sheet)} bytes are no header of {HEADER.size}"
-    if len(sheet) > SHEET_BYTES and not host:
-        return 51, f"{len(sheet)} bytes are more than {SHEET_BYTES}"
-    h = header_of(sheet)
-    for name, offset, length in (("code", h.code_offset, h.code_length), ("data", h.data_offset, h.data_length),
-                                 ("tape", h.tape_offset, 8 * h.tape_words)):
-        if offset + length > len(sheet):
-            return 52, f"the {name} ends at byte {offset + length} of a sheet of {len(sheet)}"
-    if h.mean > 1:
-        return 53, f"mean {h.mean}, which is neither 0 nor 1"
-    counts = (("step", 2**32 - 1), ("selection", 2**32 - 1), ("rounds", 2**32 - 1))
-    for name, most in counts if host else (*counts, ("states", STATES), ("memory", MEMORY), ("log", LOG)):
-        if getattr(h, name) > most:
-            return 54, f"{name} {getattr(h, name)}, the most is {most}"
-    return entry_refusal(h)
+    """The number by which the bench program, or a host, refuses a sheet and what is wrong with it, or None."""
+    number, asked = model.read_sheet(sheet, not host)
+    if not number:
+        number, _ = model.search_of(asked)
+        return (number, wrong_search(number, asked)) if number else None
+    return number, wrong_sheet(number, sheet, host)
 
 
-def entry_refusal(h):
-    """As refusal(), where a search is asked for; the bench program's limits have been tested."""
-    if h.memory % 1024 or not 1024 <= h.memory <= HOST_MEMORY:
-        return 1, f"memory {h.memory}, which is no multiple of 1024 from 1024 to {HOST_MEMORY}"
-    if not 1 <= h.states <= HOST_STATES:
-        return 2, f"states {h.states}, not from 1 to {HOST_STATES}"
-    if not 0 <= ratio_of(h.ratio) <= 1:
-        return 3, f"ratio {ratio_of(h.ratio)}, not from 0 to 1"
-    if h.log > HOST_LOG:
-        return 4, f"log {h.log}, the most is {HOST_LOG}"
-    for name, length in (("code", h.code_length), ("data", h.data_length)):
-        if length % 8:
-            return 6, f"{length} bytes of {name}, no multiple of 8"
-    for name, address, length in (("code", h.code_address, h.code_length), ("data", h.data_address, h.data_length)):
-        if length and address // 8 + length // 8 > h.memory // 8:
-            return 7, f"{length} bytes of {name} at address {address}, memory {h.memory}"
-    return None
+def wrong_sheet(number, sheet, host):
+    """What is wrong with a sheet that asks for no search."""
+    if number == SHEET_LENGTH:
+        short = len(sheet) < FIELD_BYTES
+        return f"{len(sheet)} bytes are " + (f"no header of {FIELD_BYTES}" if short else f"more than {MOST_SHEET_BYTES}")
+    header = model.fields_of(sheet)
+    if number == PART_PAST:
+        name = model.parts_past(sheet, header)[0]
+        return f"the {name} ends at byte {sum(model.parts_of(header)[name])} of a sheet of {len(sheet)}"
+    if number == MEAN_PAST:
+        return f"mean {header.mean}, which is neither 0 nor 1"
+    name, most = model.values_past(header, not host)[0]
+    return f"{name} {getattr(header, name)}, the most is {most}"
+
+
+def wrong_search(number, asked):
+    """What is wrong with the search that is asked for."""
+    o = asked.options
+    for name, segment in zip(("code", "data"), asked.segments):
+        if model.segments_refused(o.memory, [segment]) == number:
+            address, content = segment
+            why = ", no multiple of 8" if number == 6 else f" at address {address}, memory {o.memory}"
+            return f"{len(content)} bytes of {name}{why}"
+    return {
+        1: f"memory {o.memory}, which is no multiple of 1024 from 1024 to {ENTRY_MEMORY}",
+        2: f"states {o.states}, not from 1 to {ENTRY_STATES}",
+        3: f"ratio {o.ratio}, not from 0 to 1",
+        4: f"log {o.log}, the most is {ENTRY_LOG}",
+    }[number]
 
 
 # ---- instructions: format, the bits that are fixed, operands as they are written. A target is written as an address.
-R_OPERANDS, BASED = "rd,rs1,rs2", "rd,imm(rs1)"
-INSTRUCTIONS = {
-    "lui": ("U", 0x00000037, "rd,imm"),
-    "jal": ("J", 0x0000006F, "rd,target"),
-    "jalr": ("I", 0x00000067, BASED),
-    "beq": ("B", 0x00000063, "rs1,rs2,target"),
-    "ld": ("I", 0x00003003, BASED),
-    "sd": ("S", 0x00003023, "rs2,imm(rs1)"),
-    "addi": ("I", 0x00000013, "rd,rs1,imm"),
-    "add": ("R", 0x00000033, R_OPERANDS),
-    "sub": ("R", 0x40000033, R_OPERANDS),
-    "mul": ("R", 0x02000033, R_OPERANDS),
-    "sltu": ("R", 0x00003033, R_OPERANDS),
-    "divu": ("R", 0x02005033, R_OPERANDS),
-    "remu": ("R", 0x02007033, R_OPERANDS),
-    "ecall": ("", 0x00000073, ""),
-}
-FIXED = {"U": 0x7F, "J": 0x7F, "I": 0x707F, "B": 0x707F, "S": 0x707F, "R": 0xFE00707F, "": 0xFFFFFFFF}
-
-# Where the manual puts an immediate: lowest bit, count of bits, place in the word.
-IMMEDIATES = {
-    "U": ((0, 20, 12),),
-    "J": ((1, 10, 21), (11, 1, 20), (12, 8, 12), (20, 1, 31)),
-    "I": ((0, 12, 20),),
-    "B": ((1, 4, 8), (5, 6, 25), (11, 1, 7), (12, 1, 31)),
-    "S": ((0, 5, 7), (5, 7, 25)),
+WRITTEN = {
+    "lui": "rd,imm",
+    "jal": "rd,target",
+    "jalr": "rd,imm(rs1)",
+    "beq": "rs1,rs2,target",
+    "ld": "rd,imm(rs1)",
+    "sd": "rs2,imm(rs1)",
+    "addi": "rd,rs1,imm",
+    **dict.fromkeys(("add", "sub", "mul", "sltu", "divu", "remu"), "rd,rs1,rs2"),
 }
 PLACES = {"rd": 7, "rs1": 15, "rs2": 20}
+
+
+def fixed_bits(name):
+    opcode, funct3, funct7 = TABLE[name]
+    return opcode | (funct3 or 0) << 12 | (funct7 or 0) << 25
+
+
+INSTRUCTIONS = {name: (FORMATS[name], fixed_bits(name), written) for name, written in WRITTEN.items()} | {"ecall": ("", ECALL, "")}
 
 NAMES = ("zero ra sp gp tp t0 t1 t2 s0 s1 a0 a1 a2 a3 a4 a5 a6 a7 "
          "s2 s3 s4 s5 s6 s7 s8 s9 s10 s11 t3 t4 t5 t6").split()
 
+# The lowest of the 20 bits that are written for lui, in the immediate that it gives.
+LUI_LOW = 12
+
 
 def span(form):
-    """The immediates that a format has room for: the least, the most, and the step between them."""
+    """The immediates that are written for a format: the least, the most, and the step between them."""
     width = max(low + count for low, count, _ in IMMEDIATES[form])
     if form == "U":
-        return 0, 2**width - 1, 1
+        return 0, 2**(width - LUI_LOW) - 1, 1
     step = 2**min(low for low, _, _ in IMMEDIATES[form])
     return -2**(width - 1), 2**(width - 1) - step, step
 
@@ -127,22 +87,23 @@ def encode(name, operands):
     form, word, _ = INSTRUCTIONS[name]
     for operand, place in PLACES.items():
         word |= operands.get(operand, 0) << place
+    value = operands.get("imm", 0) << (LUI_LOW if form == "U" else 0)
     for low, count, place in IMMEDIATES.get(form, ()):
-        word |= (operands["imm"] >> low & 2**count - 1) << place
+        word |= (value >> low & 2**count - 1) << place
     return word
 
 
 def decode(word):
     """The name and the operands of an instruction word, or None where no instruction fits."""
-    for name, (form, bits, written) in INSTRUCTIONS.items():
-        if word & FIXED[form] == bits:
-            operands = {operand: word >> place & 31 for operand, place in PLACES.items() if operand in written}
-            if form in IMMEDIATES:
-                value = sum((word >> place & 2**count - 1) << low for low, count, place in IMMEDIATES[form])
-                least, most, _ = span(form)
-                operands["imm"] = value if value <= most else value + 2 * least
-            return name, operands
-    return None
+    try:
+        name, *registers, value = model.decode(word)
+    except model.End:
+        return None
+    form, _, written = INSTRUCTIONS[name]
+    operands = {operand: number for operand, number in zip(PLACES, registers) if operand in written}
+    if IMMEDIATES.get(form):
+        operands["imm"] = value >> LUI_LOW if form == "U" else value - 2**64 if value >> 63 else value
+    return name, operands
 
 
 # ---- the other instructions of RV64IM, by their GNU names: the bits that are fixed, and what to write instead
