@@ -1,3 +1,4 @@
 pub mod Scans
 pub mod Passed
+pub mod Tests
 pub mod Fitting

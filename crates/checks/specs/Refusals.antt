@@ -7,6 +7,8 @@ use lib.Ieee.{Float, binary64, ofInt, le}
 use Rattle.rows.specs.Rows.{rowWords, rowMarks}
 use Rattle.checks.specs.declared.refusal.Refusal.{Refusal}
 use Rattle.checks.specs.declared.refusal.Refusal.the-variants.{MemorySize, AmountOfStates, CopyRatio, LogSize, LentLengths, SegmentLength, SegmentEnd, InvalidRow}
+use Rattle.checks.specs.declared.refusal.Checked.{Checked}
+use Rattle.checks.specs.declared.refusal.Checked.the-variants.{Accepted, Refused}
 
 abbrev pub refusalNumber : Refusal → ℕ
 refusalNumber MemorySize = 1
@@ -17,6 +19,11 @@ refusalNumber LentLengths = 5
 refusalNumber SegmentLength = 6
 refusalNumber SegmentEnd = 7
 refusalNumber InvalidRow = 9
+
+-- a refusal's number, 0 for an accepted call
+abbrev pub checkedNumber : Checked → ℕ
+checkedNumber Accepted = 0
+checkedNumber (Refused f) = refusalNumber f
 
 -- 1: memory not a multiple of 1024 in 1024 to 1,048,576
 abbrev pub isMemorySize : ℕ → Bool

@@ -1,8 +1,8 @@
 // Refusals by number, and the tests for all but 9.
 ghost use mathlib.Core.Path.{_≡_};
 ghost use Prim.Native.Nat.{_≤_};
-ghost use Rattle.checks.specs.Refusals.{refusalNumber, isMemorySize, isLogSize, areLengths, isWhole, isInside};
-ghost use Rattle.checks.specs.Refusals.{isAmountOfStates, isCopyRatio};
+ghost use Rattle.checks.specs.Refusals.{refusalNumber, checkedNumber, isMemorySize, isAmountOfStates, isCopyRatio};
+ghost use Rattle.checks.specs.Refusals.{isLogSize, areLengths, isWhole, isInside};
 
 // Why an entry refuses, in the order in which it tests.
 pub enum Refusal {
@@ -34,6 +34,17 @@ impl Refusal {
             Refusal::SegmentLength => 6,
             Refusal::SegmentEnd => 7,
             Refusal::InvalidRow => 9,
+        }
+    }
+}
+
+impl Checked {
+    pub fn number(self) -> u64
+        ensures { λ r. ⌜ r ≡ checkedNumber self ⌝ }
+    {
+        match self {
+            Checked::Accepted => 0,
+            Checked::Refused(refusal) => refusal.number(),
         }
     }
 }

@@ -1,7 +1,8 @@
 // Numbers 6 and 7: whether a program's two segments can be loaded.
 ghost use mathlib.Core.Path.{_≡_};
-ghost use Rattle.loader.specs.Loading.{segment, program};
-ghost use Rattle.checks.specs.Segments.{segmentsChecked};
+ghost use Rattle.loader.specs.Loading.{image};
+ghost use Rattle.checks.specs.Segments.{segmentTests};
+ghost use Rattle.checks.specs.Tests.{checkedBy};
 use crate::refusal::Checked;
 use crate::refusal::Refusal;
 use crate::refusal::is_inside;
@@ -15,7 +16,7 @@ pub fn check_segments(
     data_address: u64,
     data: &[u8],
 ) -> Checked
-    ensures { λ r. ⌜ r ≡ segmentsChecked memory (program (segment «code_address» (now (code .entry))) (segment «data_address» (now («data» .entry)))) ⌝ }
+    ensures { λ r. ⌜ r ≡ checkedBy (segmentTests memory (image «code_address» (now (code .entry)) «data_address» (now («data» .entry)))) ⌝ }
 {
     let code_length = code.len() as u64;
     let data_length = data.len() as u64;

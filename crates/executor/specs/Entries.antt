@@ -1,6 +1,5 @@
 -- The entries over one lent row: a new executor, and a run. What is refused changes nothing.
-use mathlib.Core.Bool.{cond}
-use mathlib.Core.List.{List}
+use mathlib.Core.List.{List, [], _∷_, _++_}
 use Prim.Native.Nat.{ℕ, _/_}
 use lib.ListN.{length}
 use Rattle.answers.specs.Numbers.{progressNumber, progressValue}
@@ -12,7 +11,8 @@ use Rattle.loader.specs.Loading.{Program, newExecutor}
 use Rattle.machine.specs.Runs.{runOf}
 use Rattle.machine.specs.declared.run.Ran.{Ran}
 use Rattle.checks.specs.Refusals.{refusalNumber, isMemorySize, isLogSize, areLengths}
-use Rattle.checks.specs.Segments.{segmentsChecked}
+use Rattle.checks.specs.Segments.{segmentTests}
+use Rattle.checks.specs.Tests.{Test, test, checkedBy}
 use Rattle.rows.specs.Valid.{validRow}
 use Rattle.checks.specs.declared.refusal.Refusal.the-variants.{MemorySize, LogSize, LentLengths, InvalidRow}
 use Rattle.checks.specs.declared.refusal.Checked.{Checked}
@@ -20,27 +20,26 @@ use Rattle.checks.specs.declared.refusal.Checked.the-variants as checked
 use Rattle.executor.specs.declared.RunAnswer.{RunAnswer}
 use Rattle.executor.specs.declared.RunAnswer.the-variants as answer
 
--- a number's refusal where its test fails, else the tests that follow
-abbrev pub sizesThen : ℕ → ℕ → Row → Checked → Checked
-sizesThen memory log r next =
-    cond (isMemorySize memory)
-    (cond (isLogSize log)
-    (cond (areLengths 1 (memory / 8) log (length (r .words)) (length (r .marks))) next (checked.Refused LentLengths))
-    (checked.Refused LogSize))
-    (checked.Refused MemorySize)
+-- 1, 4, 5
+abbrev pub sizeTests : ℕ → ℕ → Row → List Test
+sizeTests memory log r =
+    test (isMemorySize memory) MemorySize
+    ∷ test (isLogSize log) LogSize
+    ∷ test (areLengths 1 (memory / 8) log (length (r .words)) (length (r .marks))) LentLengths
+    ∷ []
 
--- a new executor: 1, 4, 5, 6, 7
+-- a new executor: 1, 4, 5, then 6 and 7
 unfoldable pub creationChecked : ℕ → ℕ → Program → Row → Checked
-creationChecked memory log p r = sizesThen memory log r (segmentsChecked (memory / 8) p)
+creationChecked memory log p r = checkedBy (sizeTests memory log r ++ segmentTests (memory / 8) p)
 
 -- the row afterwards
 unfoldable pub createdRow : Checked → Program → Row → Row
 createdRow checked.Accepted p r = newExecutor p (length (r .words)) (length (r .marks))
 createdRow (checked.Refused f) p r = r
 
--- a run: 1, 4, 5, 9
+-- a run: 1, 4, 5, then 9
 unfoldable pub runChecked : ℕ → ℕ → Row → Checked
-runChecked memory log r = sizesThen memory log r (cond (validRow r) checked.Accepted (checked.Refused InvalidRow))
+runChecked memory log r = checkedBy (sizeTests memory log r ++ (test (validRow r) InvalidRow ∷ []))
 
 pub record Answered : Type 0 where
   pub row : Row

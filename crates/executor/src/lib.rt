@@ -4,8 +4,9 @@
 ghost use mathlib.Core.Path.{_≡_};
 ghost use Prim.Native.Nat.{_/_};
 ghost use Rattle.rows.specs.Rows.{row};
-ghost use Rattle.loader.specs.Loading.{segment, program};
-ghost use Rattle.executor.specs.Entries.{creationChecked, createdRow, sizesThen, runChecked, runEntry, answered};
+ghost use Rattle.loader.specs.Loading.{image};
+ghost use Rattle.checks.specs.Tests.{checkedBy};
+ghost use Rattle.executor.specs.Entries.{creationChecked, createdRow, sizeTests, runEntry, answered};
 ghost use Rattle.executor.specs.Entries.{pcOfEnd, answerNumber, answerPc, answerValue, answerUsed};
 use answers::outcome::Outcome;
 use answers::outcome::Progress;
@@ -26,7 +27,7 @@ pub enum RunAnswer {
 const ONE_ROW: u64 = 1;
 
 fn check_sizes(words: &[u64], marks: &[u8], memory: u64, log: u64) -> Checked
-    ensures { λ r. ⌜ r ≡ sizesThen memory log (row (now (words .entry)) (now (marks .entry))) Checked.Accepted ⌝ }
+    ensures { λ r. ⌜ r ≡ checkedBy (sizeTests memory log (row (now (words .entry)) (now (marks .entry)))) ⌝ }
 {
     if !is_memory_size(memory) {
         return Checked::Refused(Refusal::MemorySize);
@@ -57,7 +58,10 @@ pub fn new_executor(
     data_address: u64,
     data: &[u8],
 ) -> Checked
-    ensures { λ r. ⌜ r ≡ creationChecked memory log (program (segment «code_address» (now (code .entry))) (segment «data_address» (now («data» .entry)))) (row (now (words .entry)) (now (marks .entry))) ⌝ ∗ ⌜ row (now (words .exit)) (now (marks .exit)) ≡ createdRow r (program (segment «code_address» (now (code .entry))) (segment «data_address» (now («data» .entry)))) (row (now (words .entry)) (now (marks .entry))) ⌝ }
+    ensures { λ r. ⌜ r ≡ creationChecked memory log (image «code_address» (now (code .entry)) «data_address» (now («data» .entry)))
+        (row (now (words .entry)) (now (marks .entry))) ⌝ }
+    ensures { λ r. ⌜ row (now (words .exit)) (now (marks .exit))
+        ≡ createdRow r (image «code_address» (now (code .entry)) «data_address» (now («data» .entry))) (row (now (words .entry)) (now (marks .entry))) ⌝ }
 {
     let sizes = check_sizes(words, marks, memory, log);
     let Checked::Accepted = sizes else {
@@ -80,7 +84,8 @@ pub fn run(
     step: u32,
     tape: &[u64],
 ) -> RunAnswer
-    ensures { λ r. ⌜ answered (now (words .exit)) (now (marks .exit)) r ≡ runEntry memory log step (now (tape .entry)) (row (now (words .entry)) (now (marks .entry))) ⌝ }
+    ensures { λ r. ⌜ answered (now (words .exit)) (now (marks .exit)) r
+        ≡ runEntry memory log step (now (tape .entry)) (row (now (words .entry)) (now (marks .entry))) ⌝ }
 {
     let sizes = check_sizes(words, marks, memory, log);
     match sizes {

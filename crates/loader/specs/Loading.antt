@@ -21,6 +21,10 @@ pub record Program : Type 0 where
 abbrev pub program : Segment → Segment → Program
 program code constants = record { codeSegment = code; dataSegment = constants }
 
+-- the program of so many bytes of code and of data, each at its address
+abbrev pub image : ℕ → List ℕ → ℕ → List ℕ → Program
+image codeAddress code dataAddress constants = program (segment codeAddress code) (segment dataAddress constants)
+
 -- the word of eight bytes from place i on, little-endian
 abbrev pub wordAt : List ℕ → ℕ → ℕ
 wordAt bytes i =

@@ -17,7 +17,7 @@ use Rattle.rarity.proofs.Bounds.{scored, scores-ordered}
 use Rattle.scoring.specs.Entry.{scoringChecked, scoringAnswer, scoresLeft, storeRows, storeScores, Bounded, AlwaysScored, ScoresBounded}
 use Rattle.scoring.specs.declared.ScoringAnswer.{ScoringAnswer}
 use Rattle.scoring.specs.declared.ScoringAnswer.the-variants as answer
-use Rattle.scoring.proofs.Accepted.{sizes-accepted}
+use Rattle.scoring.proofs.Accepted.{accepted-sizes}
 
 -- no row has more marks than are cut for it
 cut-short : (n w m : ℕ) (words marks : List ℕ) {r : Row} → List·Memᴰ r (cut n w m words marks) → length (r .marks) ≤ m
@@ -37,16 +37,14 @@ bounded-among m all few short (r ∷ rows) among =
 module _ (memory log rows : ℕ) (m : MeanType) (words marks : List ℕ) (lent : List Float) where
   module _ (h : scoringChecked memory log rows words marks lent ≡ Accepted) where
     few : length (storeRows memory log rows words marks) ≤ 4096
-    unfolding scoringChecked
     few =
         let s = layout rows (memory / 8) log in
-        omega (arith, length-rows rows (s .words) (s .marks) words marks, sizes-accepted memory log rows words marks lent _ refl h .fit .sized .few)
+        omega (arith, length-rows rows (s .words) (s .marks) words marks, accepted-sizes memory log rows words marks lent h .fit .sized .few)
 
     short : (r : Row) → List·Memᴰ r (storeRows memory log rows words marks) → length (r .marks) ≤ 131104
-    unfolding scoringChecked
     short r i =
         let s = layout rows (memory / 8) log in
-        le-trans (cut-short rows (s .words) (s .marks) words marks i) (sizes-accepted memory log rows words marks lent _ refl h .fit .sized .memory)
+        le-trans (cut-short rows (s .words) (s .marks) words marks i) (accepted-sizes memory log rows words marks lent h .fit .sized .memory)
 
   -- what the entry answers and leaves, and what that comes to
   abbrev Answers : ScoringAnswer → Type 0

@@ -1,6 +1,6 @@
 -- The scoring entry: what it refuses, what it answers, and the scores that it leaves.
 use mathlib.Core.Bool.{Bool, true, cond, _&&_}
-use mathlib.Core.List.{List, [], _∷_}
+use mathlib.Core.List.{List, [], _∷_, _++_}
 use mathlib.Core.Path.{_≡_}
 use Prim.Native.Nat.{ℕ, _/_}
 use lib.Dec.{eqb}
@@ -9,6 +9,7 @@ use lib.ListN.{length}
 use Rattle.rows.specs.Rows.{Row}
 use Rattle.rows.specs.Valid.{validRow}
 use Rattle.checks.specs.Refusals.{refusalNumber, isMemorySize, isAmountOfStates, isLogSize, areLengths}
+use Rattle.checks.specs.Tests.{Test, test, checkedBy}
 use Rattle.checks.specs.declared.refusal.Refusal.the-variants.{MemorySize, AmountOfStates, LogSize, LentLengths, InvalidRow}
 use Rattle.checks.specs.declared.refusal.Checked.{Checked}
 use Rattle.checks.specs.declared.refusal.Checked.the-variants as checked
@@ -28,22 +29,21 @@ allValid (r ∷ rows) = validRow r && allValid rows
 abbrev pub storeRows : ℕ → ℕ → ℕ → List ℕ → List ℕ → List Row
 storeRows memory log rows words marks = rowsOf (layout rows (memory / 8) log) words marks
 
--- 1, 2, 4, 5 (one score a row) of so many words, marks and scores, then the tests that follow
-abbrev pub sizesThen : ℕ → ℕ → ℕ → ℕ → ℕ → ℕ → Checked → Checked
-sizesThen memory log rows words marks scores next =
-    cond (isMemorySize memory)
-    (cond (isAmountOfStates rows)
-    (cond (isLogSize log)
-    (cond (areLengths rows (memory / 8) log words marks && eqb scores rows) next (checked.Refused LentLengths))
-    (checked.Refused LogSize))
-    (checked.Refused AmountOfStates))
-    (checked.Refused MemorySize)
+-- 1, 2, 4, 5 (one score a row) of so many words, marks and scores
+abbrev pub sizeTests : ℕ → ℕ → ℕ → ℕ → ℕ → ℕ → List Test
+sizeTests memory log rows words marks scores =
+    test (isMemorySize memory) MemorySize
+    ∷ test (isAmountOfStates rows) AmountOfStates
+    ∷ test (isLogSize log) LogSize
+    ∷ test (areLengths rows (memory / 8) log words marks && eqb scores rows) LentLengths
+    ∷ []
 
--- and 9
+-- then 9
 unfoldable pub scoringChecked : ℕ → ℕ → ℕ → List ℕ → List ℕ → List Float → Checked
 scoringChecked memory log rows words marks scores =
-    sizesThen memory log rows (length words) (length marks) (length scores)
-    (cond (allValid (storeRows memory log rows words marks)) checked.Accepted (checked.Refused InvalidRow))
+    checkedBy
+    (sizeTests memory log rows (length words) (length marks) (length scores)
+    ++ (test (allValid (storeRows memory log rows words marks)) InvalidRow ∷ []))
 
 -- 31 where scores cannot be ordered
 abbrev pub orderedAnswer : Bool → ScoringAnswer

@@ -2,9 +2,10 @@
 // What is refused changes nothing.
 ghost use mathlib.Core.Path.{_≡_};
 ghost use lib.ListN.{length};
+ghost use Rattle.checks.specs.Tests.{checkedBy};
 ghost use Rattle.store.specs.Store.{Fit, rowsOf};
 ghost use Rattle.rarity.specs.Scores.{scoresOf, areOrdered};
-ghost use Rattle.scoring.specs.Entry.{allValid, sizesThen, scoringChecked, orderedAnswer, scoringAnswer, scoresLeft, storeScores, scoringNumber};
+ghost use Rattle.scoring.specs.Entry.{allValid, sizeTests, scoringChecked, orderedAnswer, scoringAnswer, scoresLeft, storeScores, scoringNumber};
 ghost use Rattle.scoring.specs.Entry.{AlwaysScored, ScoresBounded};
 use checks::refusal::Checked;
 use checks::refusal::Refusal;
@@ -65,7 +66,7 @@ fn check_sizes(
     rows: u64,
     scores: usize,
 ) -> Checked
-    ensures { λ r. ⌜ r ≡ sizesThen memory log rows (length (now (words .entry))) (length (now (marks .entry))) scores Checked.Accepted ⌝ }
+    ensures { λ r. ⌜ r ≡ checkedBy (sizeTests memory log rows (length (now (words .entry))) (length (now (marks .entry))) scores) ⌝ }
 {
     if !is_memory_size(memory) {
         return Checked::Refused(Refusal::MemorySize);
@@ -114,7 +115,8 @@ fn score_store(
     scores: &mut [f64],
 ) -> ScoringAnswer
     requires { ⌜ Fit store (now words) (now marks) ⌝ ∗ ⌜ length (now scores) ≡ store .rows ⌝ }
-    ensures { λ r. ⌜ r ≡ orderedAnswer (areOrdered (scoresOf mean (rowsOf store (now (words .entry)) (now (marks .entry))))) ⌝ ∗ ⌜ now (scores .exit) ≡ scoresLeft r (scoresOf mean (rowsOf store (now (words .entry)) (now (marks .entry)))) (now (scores .entry)) ⌝ }
+    ensures { λ r. ⌜ r ≡ orderedAnswer (areOrdered (scoresOf mean (rowsOf store (now (words .entry)) (now (marks .entry))))) ⌝ }
+    ensures { λ r. ⌜ now (scores .exit) ≡ scoresLeft r (scoresOf mean (rowsOf store (now (words .entry)) (now (marks .entry)))) (now (scores .entry)) ⌝ }
 {
     let n = store.rows;
     let flags = [true; MOST_ROWS];

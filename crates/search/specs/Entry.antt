@@ -1,11 +1,11 @@
 -- The search entry: what it refuses, what it answers, and the store that it leaves.
-use mathlib.Core.Bool.{cond}
-use mathlib.Core.List.{List}
+use mathlib.Core.List.{List, [], _∷_, _++_}
 use mathlib.Core.Path.{_≡_}
 use Prim.Native.Nat.{ℕ, _/_}
 use lib.ListN.{length}
 use Rattle.checks.specs.Refusals.{refusalNumber, isMemorySize, isAmountOfStates, isCopyRatio, isLogSize, areLengths}
-use Rattle.checks.specs.Segments.{segmentsChecked}
+use Rattle.checks.specs.Segments.{segmentTests}
+use Rattle.checks.specs.Tests.{Test, test, checkedBy}
 use Rattle.checks.specs.declared.refusal.Refusal.the-variants.{MemorySize, AmountOfStates, CopyRatio, LogSize, LentLengths}
 use Rattle.checks.specs.declared.refusal.Checked.{Checked}
 use Rattle.checks.specs.declared.refusal.Checked.the-variants as checked
@@ -20,22 +20,22 @@ use Rattle.rounds.specs.declared.options.RaritySimulationOptions.{RaritySimulat
 use Rattle.search.specs.declared.answer.SearchAnswer.{SearchAnswer}
 use Rattle.search.specs.declared.answer.SearchAnswer.the-variants as answer
 
--- 1 to 5, then the tests that follow
-abbrev pub optionsThen : RaritySimulationOptions → ℕ → ℕ → ℕ → Checked → Checked
-optionsThen o log words marks next =
-    cond (isMemorySize (o .«memory_size»))
-    (cond (isAmountOfStates (o .«amount_of_states»))
-    (cond (isCopyRatio (o .«copy_init_ratio»))
-    (cond (isLogSize log)
-    (cond (areLengths (o .«amount_of_states») (o .«memory_size» / 8) log words marks) next (checked.Refused LentLengths))
-    (checked.Refused LogSize))
-    (checked.Refused CopyRatio))
-    (checked.Refused AmountOfStates))
-    (checked.Refused MemorySize)
+-- 1 to 5, of a store of so many words and marks
+abbrev pub optionTests : RaritySimulationOptions → ℕ → ℕ → ℕ → List Test
+optionTests o log words marks =
+    test (isMemorySize (o .«memory_size»)) MemorySize
+    ∷ test (isAmountOfStates (o .«amount_of_states»)) AmountOfStates
+    ∷ test (isCopyRatio (o .«copy_init_ratio»)) CopyRatio
+    ∷ test (isLogSize log) LogSize
+    ∷ test (areLengths (o .«amount_of_states») (o .«memory_size» / 8) log words marks) LentLengths
+    ∷ []
 
--- 6 and 7 last
+-- then 6 and 7
+abbrev pub callTests : RaritySimulationOptions → ℕ → Program → ℕ → ℕ → List Test
+callTests o log p words marks = optionTests o log words marks ++ segmentTests (o .«memory_size» / 8) p
+
 unfoldable pub searchChecked : RaritySimulationOptions → ℕ → Program → List ℕ → List ℕ → Checked
-searchChecked o log p words marks = optionsThen o log (length words) (length marks) (segmentsChecked (o .«memory_size» / 8) p)
+searchChecked o log p words marks = checkedBy (callTests o log p (length words) (length marks))
 
 -- the store and the answer after a call
 pub record Left : Type 0 where

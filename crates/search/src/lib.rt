@@ -1,16 +1,15 @@
 // The rarity search for hosts: a store is lent, and nothing is asked of the caller. What is refused changes nothing.
 ghost use mathlib.Core.Path.{_≡_};
-ghost use Prim.Native.Nat.{_-_, _/_};
+ghost use Prim.Native.Nat.{_-_};
 ghost use lib.Dec.{T};
 ghost use lib.ListN.{replicate};
 ghost use Rattle.checks.specs.Refusals.{isCopyRatio};
-ghost use Rattle.checks.specs.Segments.{segmentsChecked};
-ghost use Rattle.checks.specs.declared.refusal.Checked.the-variants.{Accepted};
-ghost use Rattle.loader.specs.Loading.{segment, program, Fits};
+ghost use Rattle.checks.specs.Tests.{checkedBy};
+ghost use Rattle.loader.specs.Loading.{segment, image, Fits};
 ghost use Rattle.store.specs.Store.{Fit, rowsOf, zeroRow};
 ghost use Rattle.rounds.specs.Calls.{call};
 ghost use Rattle.rounds.specs.Rounds.{searched};
-ghost use Rattle.search.specs.Entry.{optionsThen, searchedAs, left, searchEntry, Demanded};
+ghost use Rattle.search.specs.Entry.{optionTests, callTests, searchedAs, left, searchEntry, Demanded};
 
 pub mod answer;
 
@@ -32,7 +31,7 @@ use turns::round;
 
 // Numbers 1 to 5.
 fn check_options(options: RaritySimulationOptions, log: u64, words: usize, marks: usize) -> Checked
-    ensures { λ r. ⌜ r ≡ optionsThen options log words marks Accepted ⌝ }
+    ensures { λ r. ⌜ r ≡ checkedBy (optionTests options log words marks) ⌝ }
 {
     if !is_memory_size(options.memory_size) {
         return Checked::Refused(Refusal::MemorySize);
@@ -69,7 +68,7 @@ fn check_call(
     data_address: u64,
     data: &[u8],
 ) -> Checked
-    ensures { λ r. ⌜ r ≡ optionsThen options log words marks (segmentsChecked (options .«memory_size» / 8) (program (segment «code_address» (now (code .entry))) (segment «data_address» (now («data» .entry))))) ⌝ }
+    ensures { λ r. ⌜ r ≡ checkedBy (callTests options log (image «code_address» (now (code .entry)) «data_address» (now («data» .entry))) words marks) ⌝ }
 {
     let checked = check_options(options, log, words, marks);
     let Checked::Accepted = checked else {
@@ -91,9 +90,13 @@ fn search_rounds(
     data: &[u8],
     tape: &[u64],
 ) -> SearchAnswer
-    requires { ⌜ Fit store (now words) (now marks) ⌝ ∗ ⌜ rowsOf store (now words) (now marks) ≡ replicate (store .rows) (zeroRow store) ⌝ ∗ ⌜ T (isCopyRatio (options .«copy_init_ratio»)) ⌝ ∗ ⌜ Fits (store .marks - 32) (segment «code_address» (now code)) ⌝ ∗ ⌜ Fits (store .marks - 32) (segment «data_address» (now «data»)) ⌝ }
+    requires { ⌜ Fit store (now words) (now marks) ⌝ }
+    requires { ⌜ rowsOf store (now words) (now marks) ≡ replicate (store .rows) (zeroRow store) ⌝ }
+    requires { ⌜ T (isCopyRatio (options .«copy_init_ratio»)) ⌝ }
+    requires { ⌜ Fits (store .marks - 32) (segment «code_address» (now code)) ⌝ }
+    requires { ⌜ Fits (store .marks - 32) (segment «data_address» (now «data»)) ⌝ }
     ensures { λ r. ⌜ searchedAs r (rowsOf store (now (words .exit)) (now (marks .exit)))
-        (searched (call options store (program (segment «code_address» (now (code .entry))) (segment «data_address» (now («data» .entry))))
+        (searched (call options store (image «code_address» (now (code .entry)) «data_address» (now («data» .entry)))
         (now (tape .entry)))) ⌝ }
 {
     let mut kept = 0;
@@ -147,9 +150,9 @@ pub fn search_for_bugs(
     tape: &[u64],
 ) -> SearchAnswer
     ensures { λ r. ⌜ left (now (words .exit)) (now (marks .exit)) r
-        ≡ searchEntry options log (program (segment «code_address» (now (code .entry))) (segment «data_address» (now («data» .entry))))
+        ≡ searchEntry options log (image «code_address» (now (code .entry)) «data_address» (now («data» .entry)))
         (now (tape .entry)) (now (words .entry)) (now (marks .entry)) ⌝ }
-    ensures { λ _. ⌜ Demanded options log (program (segment «code_address» (now (code .entry))) (segment «data_address» (now («data» .entry))))
+    ensures { λ _. ⌜ Demanded options log (image «code_address» (now (code .entry)) «data_address» (now («data» .entry)))
         (now (tape .entry)) (now (words .entry)) (now (marks .entry)) ⌝ }
 {
     let checked = check_call(

@@ -5,14 +5,12 @@ use mathlib.Core.Path.{_≡_}
 use Prim.Native.Nat.{ℕ}
 use lib.Dec.{eqb, leb}
 use lib.Ieee.{Float}
-use Rattle.checks.specs.Refusals.{refusalNumber}
-use Rattle.checks.specs.declared.refusal.Checked.{Checked}
-use Rattle.checks.specs.declared.refusal.Checked.the-variants as checked
+use Rattle.checks.specs.declared.refusal.Checked.the-variants.{Accepted}
 use Rattle.executor.specs.Entries as run
 use Rattle.executor.specs.declared.RunAnswer.{RunAnswer}
 use Rattle.means.specs.declared.MeanType.{MeanType}
 use Rattle.means.specs.declared.MeanType.the-variants.{Arithmetic, Harmonic}
-use Rattle.rows.specs.Rows.{row}
+use Rattle.rows.specs.Rows.{Row, row}
 use Rattle.loader.specs.Loading.{Program}
 use Rattle.rounds.specs.declared.options.RaritySimulationOptions.{RaritySimulationOptions}
 use Rattle.scoring.specs.Entry as scoring
@@ -40,11 +38,6 @@ optionsOf o =
       «copy_init_ratio» = o .«copy_init_ratio»;
       mean = meanOf (o .mean);
     }
-
--- a refusal's number, 0 for an accepted call
-abbrev pub checkedNumber : Checked → ℕ
-checkedNumber checked.Accepted = 0
-checkedNumber (checked.Refused f) = refusalNumber f
 
 abbrev pub refused : ℕ → Answer
 refused number = record { number = number; row = 0; pc = 0; value = 0; used = 0 }
@@ -88,6 +81,10 @@ leftByRun x = left (x .row .words) (x .row .marks) (ofRun (x .answer))
 abbrev pub leftBySearch : search.Left → Left
 leftBySearch x = left (x .words) (x .marks) (ofSearch (x .answer))
 
+-- the row after a call for a new executor
+abbrev pub creationLeft : ℕ → ℕ → Program → Row → Row
+creationLeft memory log p r = run.createdRow (run.creationChecked memory log p r) p r
+
 abbrev pub runLeft : ℕ → ℕ → ℕ → List ℕ → List ℕ → List ℕ → Left
 runLeft memory log step tape words marks = leftByRun (run.runEntry memory log step tape (row words marks))
 
@@ -115,4 +112,4 @@ scoreLeft memory log rows mean words marks scores = let computed = scoring.store
 
 -- of a call that is not refused: its number is 0, and 31 is never given
 abbrev pub AlwaysScored : ℕ → ℕ → ℕ → List ℕ → List ℕ → List Float → ℕ → Type 0
-AlwaysScored memory log rows words marks scores number = scoring.scoringChecked memory log rows words marks scores ≡ checked.Accepted → number ≡ 0
+AlwaysScored memory log rows words marks scores number = scoring.scoringChecked memory log rows words marks scores ≡ Accepted → number ≡ 0

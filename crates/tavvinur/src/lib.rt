@@ -2,14 +2,14 @@
 ghost use mathlib.Core.Path.{_≡_};
 ghost use Prim.Native.Nat.{_≤_};
 ghost use Rattle.rows.specs.Rows.{row};
-ghost use Rattle.loader.specs.Loading.{segment, program};
-ghost use Rattle.executor.specs.Entries.{creationChecked, createdRow};
+ghost use Rattle.loader.specs.Loading.{image};
+ghost use Rattle.checks.specs.Refusals.{checkedNumber};
+ghost use Rattle.executor.specs.Entries.{creationChecked};
 ghost use Rattle.rounds.specs.Defaults.{defaultOptions};
-ghost use Rattle.tavvinur.specs.Flat.{meanOf, meanNumber, optionsOf, flatOf, checkedNumber, refused, ofRun, ofSearch};
+ghost use Rattle.tavvinur.specs.Flat.{meanOf, meanNumber, optionsOf, flatOf, refused, ofRun, ofSearch};
 ghost use Rattle.scoring.specs.Entry.{ScoresBounded};
 ghost use Rattle.search.specs.Entry.{Demanded};
-ghost use Rattle.tavvinur.specs.Flat.{left, runLeft, searchLeft, scoresWith, scoreLeft, AlwaysScored};
-use checks::refusal::Checked;
+ghost use Rattle.tavvinur.specs.Flat.{left, creationLeft, runLeft, searchLeft, scoresWith, scoreLeft, AlwaysScored};
 use executor::RunAnswer;
 use means::MeanType;
 use rounds::options::RaritySimulationOptions;
@@ -70,15 +70,6 @@ fn options_of(options: Options) -> RaritySimulationOptions
         iterations: options.iterations,
         copy_init_ratio: options.copy_init_ratio,
         mean: mean_of(options.mean),
-    }
-}
-
-fn checked_number(checked: Checked) -> u64
-    ensures { λ r. ⌜ r ≡ checkedNumber checked ⌝ }
-{
-    match checked {
-        Checked::Accepted => 0,
-        Checked::Refused(refusal) => refusal.number(),
     }
 }
 
@@ -148,9 +139,12 @@ pub extern "C" fn tavvinur_new_executor(
     data_address: u64,
     data: &[u8],
 ) -> u64
-    ensures { λ r. ⌜ r ≡ checkedNumber (creationChecked memory log (program (segment «code_address» (now (code .entry))) (segment «data_address» (now («data» .entry)))) (row (now (words .entry)) (now (marks .entry)))) ⌝ ∗ ⌜ row (now (words .exit)) (now (marks .exit)) ≡ createdRow (creationChecked memory log (program (segment «code_address» (now (code .entry))) (segment «data_address» (now («data» .entry)))) (row (now (words .entry)) (now (marks .entry)))) (program (segment «code_address» (now (code .entry))) (segment «data_address» (now («data» .entry)))) (row (now (words .entry)) (now (marks .entry))) ⌝ }
+    ensures { λ r. ⌜ r ≡ checkedNumber (creationChecked memory log (image «code_address» (now (code .entry)) «data_address» (now («data» .entry)))
+        (row (now (words .entry)) (now (marks .entry)))) ⌝ }
+    ensures { λ _. ⌜ row (now (words .exit)) (now (marks .exit))
+        ≡ creationLeft memory log (image «code_address» (now (code .entry)) «data_address» (now («data» .entry))) (row (now (words .entry)) (now (marks .entry))) ⌝ }
 {
-    checked_number(executor::new_executor(
+    let checked = executor::new_executor(
         words,
         marks,
         memory,
@@ -159,7 +153,8 @@ pub extern "C" fn tavvinur_new_executor(
         code,
         data_address,
         data,
-    ))
+    );
+    checked.number()
 }
 
 // Runs a lent row for at most `step` instructions more, on a lent tape from its front.
@@ -215,10 +210,10 @@ pub extern "C" fn tavvinur_search(
     tape: &[u64],
 ) -> Answer
     ensures { λ r. ⌜ left (now (words .exit)) (now (marks .exit)) r
-        ≡ searchLeft options log (program (segment «code_address» (now (code .entry))) (segment «data_address» (now («data» .entry))))
+        ≡ searchLeft options log (image «code_address» (now (code .entry)) «data_address» (now («data» .entry)))
         (now (tape .entry)) (now (words .entry)) (now (marks .entry)) ⌝ }
     ensures { λ _. ⌜ (options .mean ≤ 1
-        → Demanded (optionsOf options) log (program (segment «code_address» (now (code .entry))) (segment «data_address» (now («data» .entry))))
+        → Demanded (optionsOf options) log (image «code_address» (now (code .entry)) «data_address» (now («data» .entry)))
         (now (tape .entry)) (now (words .entry)) (now (marks .entry))) ⌝ }
 {
     if options.mean > MOST_MEAN {

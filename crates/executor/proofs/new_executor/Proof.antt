@@ -1,11 +1,9 @@
-use Prim.Native.Nat.{_/_}
 use borrow.Author.Needs.{needs}
 use mathlib.Core.Path.{refl, sym, _∙_}
 use Rattle.rows.specs.Rows.{row}
-use Rattle.loader.specs.Loading.{segment, program}
-use Rattle.executor.specs.Entries.{creationChecked, createdRow}
-use Rattle.executor.proofs.Accepted.{sizes-refused, sizes-accepted}
-use Rattle.checks.proofs.Fitting.{segments-fit}
+use Rattle.loader.specs.Loading.{image}
+use Rattle.executor.specs.Entries.{createdRow}
+use Rattle.executor.proofs.Accepted.{sizes-accepted, creation-refused, creation-tested, creation-fits}
 use Rattle.executor.proofs.new_executor.Statement.{statement}
 use Rattle.executor.proofs.new_executor.Tie as tie
 
@@ -25,8 +23,13 @@ same-length-2 : tie.Need-same-length-2
 same-length-2 c = search needs
 
 returns : tie.Need-returns
-unfolding creationChecked createdRow
-returns c = rw (c .enum-told2 .given .1) (sym (sizes-refused (c .before .before .before .before .before .before .before .before .before .args .memory) (c .before .before .before .before .before .before .before .before .before .args .log) (row (c .before .before .before .before .before .before .before .before .before .args .words .now) (c .before .before .before .before .before .before .before .before .before .args .marks .now)) _ _ (sym (c .before .before .check-sizes .ensures) ∙ c .enum-told2 .given .1)), refl)
+unfolding createdRow
+returns c =
+    let a = c .before .before .before .before .before .before .before .before .before .args in
+    let r = row (a .words .now) (a .marks .now) in
+    let p = image (a .code-address) (a .code .now) (a .data-address) (a .«data» .now) in
+    let refused = c .enum-told2 .given .1 in
+    (creation-refused (a .memory) (a .log) r (c .before .before .check-sizes .ensures) p refused, rw refused)
 
 check-segments-requires : tie.Need-check-segments-requires
 check-segments-requires c κs = search needs
@@ -44,11 +47,25 @@ same-length-4 : tie.Need-same-length-4
 same-length-4 c = search needs
 
 returns-2 : tie.Need-returns-2
-unfolding creationChecked createdRow
-returns-2 c = (c .before .before .check-segments .ensures ∙ sym (sizes-accepted (c .before .before .before .before .before .before .before .before .before .before .before .before .args .memory) (c .before .before .before .before .before .before .before .before .before .before .before .before .args .log) (row (c .before .before .before .before .before .before .before .before .before .before .before .before .args .words .now) (c .before .before .before .before .before .before .before .before .before .before .before .before .args .marks .now)) (sym (c .before .before .before .before .before .check-sizes .ensures) ∙ c .before .before .before .enum-told .given .1) .then _), rw (c .enum-told4 .given .1))
+unfolding createdRow
+returns-2 c =
+    let a = c .before .before .before .before .before .before .before .before .before .before .before .before .args in
+    let r = row (a .words .now) (a .marks .now) in
+    let p = image (a .code-address) (a .code .now) (a .data-address) (a .«data» .now) in
+    let sizes = c .before .before .before .before .before .check-sizes .ensures in
+    let passed = c .before .before .before .enum-told .given .1 in
+    (creation-tested (a .memory) (a .log) r sizes p passed (c .before .before .check-segments .ensures), rw (c .enum-told4 .given .1))
 
 new-executor-requires : tie.Need-new-executor-requires
-new-executor-requires c κs = let s = sizes-accepted (c .before .before .before .before .before .before .before .before .before .before .before .before .before .before .args .memory) (c .before .before .before .before .before .before .before .before .before .before .before .before .before .before .args .log) (row (c .before .before .before .before .before .before .before .before .before .before .before .before .before .before .args .words .now) (c .before .before .before .before .before .before .before .before .before .before .before .before .before .before .args .marks .now)) (sym (c .before .before .before .before .before .before .before .check-sizes .ensures) ∙ c .before .before .before .before .before .enum-told .given .1) in let f = rw (← s .memory-words) at (segments-fit (c .before .before .before .before .before .before .before .before .before .before .before .before .before .before .args .memory / 8) (program (segment (c .before .before .before .before .before .before .before .before .before .before .before .before .before .before .args .code-address) (c .before .before .before .before .before .before .before .before .before .before .before .before .before .before .args .code .now)) (segment (c .before .before .before .before .before .before .before .before .before .before .before .before .before .before .args .data-address) (c .before .before .before .before .before .before .before .before .before .before .before .before .before .before .args .«data» .now))) (sym (c .before .before .before .before .check-segments .ensures) ∙ c .before .before .enum-told3 .given .1)) in (s .shape, (s .some-memory, (f .0, f .1)))
+new-executor-requires c κs =
+    let a = c .before .before .before .before .before .before .before .before .before .before .before .before .before .before .args in
+    let r = row (a .words .now) (a .marks .now) in
+    let p = image (a .code-address) (a .code .now) (a .data-address) (a .«data» .now) in
+    let sizes = c .before .before .before .before .before .before .before .check-sizes .ensures in
+    let passed = c .before .before .before .before .before .enum-told .given .1 in
+    let s = sizes-accepted (a .memory) (a .log) r sizes passed in
+    let f = creation-fits (a .memory) (a .log) r sizes p passed (c .before .before .before .before .check-segments .ensures) (c .before .before .enum-told3 .given .1) in
+    (s .shape, (s .some-memory, (f .0, f .1)))
 
 same-length-5 : tie.Need-same-length-5
 same-length-5 c = search needs
@@ -57,8 +74,15 @@ same-length-6 : tie.Need-same-length-6
 same-length-6 c = search needs
 
 returns-3 : tie.Need-returns-3
-unfolding creationChecked createdRow
-returns-3 c = (sym (c .before .before .before .before .before .before .before .enum-told3 .given .1) ∙ c .before .before .before .before .before .before .before .before .before .check-segments .ensures ∙ sym (sizes-accepted (c .before .before .before .before .before .before .before .before .before .before .before .before .before .before .before .before .before .before .before .args .memory) (c .before .before .before .before .before .before .before .before .before .before .before .before .before .before .before .before .before .before .before .args .log) (row (c .before .before .before .before .before .before .before .before .before .before .before .before .before .before .before .before .before .before .before .args .words .now) (c .before .before .before .before .before .before .before .before .before .before .before .before .before .before .before .before .before .before .before .args .marks .now)) (sym (c .before .before .before .before .before .before .before .before .before .before .before .before .check-sizes .ensures) ∙ c .before .before .before .before .before .before .before .before .before .before .enum-told .given .1) .then _), c .before .before .before .before .new-executor .ensures)
+unfolding createdRow
+returns-3 c =
+    let a = c .before .before .before .before .before .before .before .before .before .before .before .before .before .before .before .before .before .before .before .args in
+    let r = row (a .words .now) (a .marks .now) in
+    let p = image (a .code-address) (a .code .now) (a .data-address) (a .«data» .now) in
+    let sizes = c .before .before .before .before .before .before .before .before .before .before .before .before .check-sizes .ensures in
+    let passed = c .before .before .before .before .before .before .before .before .before .before .enum-told .given .1 in
+    let tested = creation-tested (a .memory) (a .log) r sizes p passed (c .before .before .before .before .before .before .before .before .before .check-segments .ensures) in
+    (sym (c .before .before .before .before .before .before .before .enum-told3 .given .1) ∙ tested, c .before .before .before .before .new-executor .ensures)
 
 pub new-executor-spec : {M : Type 1} → statement M
 new-executor-spec =

@@ -3,6 +3,7 @@ use mathlib.Core.Path.{sym, _∙_}
 use native.Mathlib.Omega.{arith}
 use borrow.Author.Needs.{needs}
 use borrow.Author.Tests.{eq-eqb, ne-eqb, not-true, not-false}
+use Rattle.checks.specs.Tests.{checkedBy}
 use Rattle.checks.proofs.Passed.{memory-size, amount-of-states, log-size}
 use Rattle.scoring.proofs.check_sizes.Statement.{statement}
 use Rattle.scoring.proofs.check_sizes.Tie as tie
@@ -11,12 +12,14 @@ is-memory-size-requires : tie.Need-is-memory-size-requires
 is-memory-size-requires c κs = search needs
 
 returns : tie.Need-returns
+unfolding checkedBy
 returns c = rw (sym (c .before .is-memory-size .ensures) ∙ not-true _ (c .if1 .taken))
 
 is-amount-of-states-requires : tie.Need-is-amount-of-states-requires
 is-amount-of-states-requires c κs = search needs
 
 returns-2 : tie.Need-returns-2
+unfolding checkedBy
 returns-2 c =
     rw (
       sym (c .before .before .before .is-memory-size .ensures) ∙ not-false _ (c .before .before .if1 .left),
@@ -27,6 +30,7 @@ is-log-size-requires : tie.Need-is-log-size-requires
 is-log-size-requires c κs = search needs
 
 returns-3 : tie.Need-returns-3
+unfolding checkedBy
 returns-3 c =
     rw (
       sym (c .before .before .before .before .before .is-memory-size .ensures) ∙ not-false _ (c .before .before .before .before .if1 .left),
@@ -43,6 +47,7 @@ are-lengths-requires c κs =
     (n .1, (omega arith, log-size (s .args .log) (sym (c .before .is-log-size .ensures) ∙ not-false _ (c .if3 .left))))
 
 returns-4 : tie.Need-returns-4
+unfolding checkedBy
 returns-4 c =
     let b = c .before .before .before .before in
     rw (
@@ -53,6 +58,7 @@ returns-4 c =
     )
 
 returns-5 : tie.Need-returns-5
+unfolding checkedBy
 returns-5 c =
     let b = c .before .before .before .before .before in
     rw (
@@ -64,6 +70,7 @@ returns-5 c =
     )
 
 returns-6 : tie.Need-returns-6
+unfolding checkedBy
 returns-6 c =
     let b = c .before .before .before .before .before in
     rw (

@@ -16,21 +16,21 @@ enum-told c = search needs
 new-requires : tie.Need-new-requires
 new-requires c κs =
     let a = c .before .before .before .before .before .before .args in
-    let z = sizes-accepted (a .memory) (a .log) (a .rows) (a .words .now) (a .marks .now) (a .scores .now) _
+    let z = sizes-accepted (a .memory) (a .log) (a .rows) (a .words .now) (a .marks .now) (a .scores .now)
     (c .before .before .check-sizes .ensures) (c .enum-told .given .1) in
     (z .memory-most, z .log-most)
 
 all-valid-requires : tie.Need-all-valid-requires
 all-valid-requires c κs =
     let a = c .before .before .before .before .before .before .before .args in
-    let z = sizes-accepted (a .memory) (a .log) (a .rows) (a .words .now) (a .marks .now) (a .scores .now) _
+    let z = sizes-accepted (a .memory) (a .log) (a .rows) (a .words .now) (a .marks .now) (a .scores .now)
     (c .before .before .before .check-sizes .ensures) (c .before .enum-told .given .1) in
     rw (c .new .ensures) (z .fit)
 
 score-store-requires : tie.Need-score-store-requires
 score-store-requires c κs =
     let a = c .before .before .before .before .before .before .before .before .before .before .args in
-    let z = sizes-accepted (a .memory) (a .log) (a .rows) (a .words .now) (a .marks .now) (a .scores .now) _
+    let z = sizes-accepted (a .memory) (a .log) (a .rows) (a .words .now) (a .marks .now) (a .scores .now)
     (c .before .before .before .before .before .before .check-sizes .ensures) (c .before .before .before .before .enum-told .given .1) in
     rw (c .before .before .before .new .ensures) (z .fit, z .one-each)
 
@@ -46,27 +46,24 @@ returns c =
     let n = i .before .before .new .ensures in
     let t = i .before .before .before in
     let a = c .before .before .before .before .before .before .before .before .before .before .before .before .before .args in
-    let z = sizes-accepted (a .memory) (a .log) (a .rows) (a .words .now) (a .marks .now) (a .scores .now) _
-    (t .before .before .check-sizes .ensures) (t .enum-told .given .1) in
     let x = rw n at (c .before .before .score-store .ensures) in
     promised (a .memory) (a .log) (a .rows) (a .mean) (a .words .now) (a .marks .now) (a .scores .now)
-    (x .0 ∙ valid-answer _ _ _ _ _ _ z n (i .before .all-valid .ensures) _ (i .if1 .taken)) (x .1)
+    (x .0 ∙ valid-answer _ _ _ _ _ _ (t .before .before .check-sizes .ensures) (t .enum-told .given .1) n (i .before .all-valid .ensures) _ (i .if1 .taken)) (x .1)
 
 returns-2 : tie.Need-returns-2
 unfolding scoresLeft
 returns-2 c =
     let a = c .before .before .before .before .before .before .before .before .before .args in
-    let z = sizes-accepted (a .memory) (a .log) (a .rows) (a .words .now) (a .marks .now) (a .scores .now) _
-    (c .before .before .before .before .before .check-sizes .ensures) (c .before .before .before .enum-told .given .1) in
+    let t = c .before .before .before in
     promised (a .memory) (a .log) (a .rows) (a .mean) (a .words .now) (a .marks .now) (a .scores .now)
-    (invalid-answer _ _ _ _ _ _ z (c .before .before .new .ensures) (c .before .all-valid .ensures) _ (c .if1 .left)) refl
+    (invalid-answer _ _ _ _ _ _ (t .before .before .check-sizes .ensures) (t .enum-told .given .1) (c .before .before .new .ensures) (c .before .all-valid .ensures) _ (c .if1 .left)) refl
 
 returns-3 : tie.Need-returns-3
 unfolding scoresLeft
 returns-3 c =
     let a = c .before .before .before .before .before .before .before .args in
     promised (a .memory) (a .log) (a .rows) (a .mean) (a .words .now) (a .marks .now) (a .scores .now)
-    (refused-answer _ _ _ _ _ _ _ (c .before .before .before .check-sizes .ensures) (c .before .sizes .given .1)) refl
+    (refused-answer _ _ _ _ _ _ (c .before .before .before .check-sizes .ensures) _ (c .before .sizes .given .1)) refl
 
 pub score-with-mean-spec : {M : Type 1} → statement M
 score-with-mean-spec =

@@ -1,6 +1,10 @@
 use borrow.Author.Needs.{needs}
 use mathlib.Core.Path.{sym, _∙_}
-use Rattle.search.proofs.Accepted.{options-refused, options-passed}
+use Prim.Native.Nat.{_/_}
+use Rattle.loader.specs.Loading.{image}
+use Rattle.checks.specs.Segments.{segmentTests}
+use Rattle.checks.proofs.Tests.{then-others, still-refused}
+use Rattle.search.specs.Entry.{optionTests}
 use Rattle.search.proofs.check_call.Statement.{statement}
 use Rattle.search.proofs.check_call.Tie as tie
 
@@ -16,8 +20,10 @@ enum-told-2 c = search needs
 returns : tie.Need-returns
 returns c =
     let a = c .before .before .before .before .before .args in
-    c .enum-told2 .given .1
-    ∙ sym (options-refused (a .options) (a .log) (a .words) (a .marks) _ _ (sym (c .before .before .check-options .ensures) ∙ c .enum-told2 .given .1))
+    let p = image (a .code-address) (a .code .now) (a .data-address) (a .«data» .now) in
+    let refused = c .enum-told2 .given .1 in
+    let tests = optionTests (a .options) (a .log) (a .words) (a .marks) in
+    refused ∙ sym (still-refused tests (c .before .before .check-options .ensures) (segmentTests (a .options .«memory_size» / 8) p) refused)
 
 check-segments-requires : tie.Need-check-segments-requires
 check-segments-requires c κs = search needs
@@ -25,8 +31,10 @@ check-segments-requires c κs = search needs
 returns-2 : tie.Need-returns-2
 returns-2 c =
     let a = c .before .before .before .before .before .before .before .args in
-    c .check-segments .ensures
-    ∙ sym (options-passed (a .options) (a .log) (a .words) (a .marks) _ (sym (c .before .before .before .before .check-options .ensures) ∙ c .before .before .enum-told .given .1))
+    let p = image (a .code-address) (a .code .now) (a .data-address) (a .«data» .now) in
+    let tests = optionTests (a .options) (a .log) (a .words) (a .marks) in
+    let options = c .before .before .before .before .check-options .ensures in
+    c .check-segments .ensures ∙ sym (then-others tests options (segmentTests (a .options .«memory_size» / 8) p) (c .before .before .enum-told .given .1))
 
 pub check-call-spec : {M : Type 1} → statement M
 check-call-spec =

@@ -2,6 +2,7 @@ use borrow.Author.Needs.{needs}
 use mathlib.Core.Path.{sym, _∙_}
 use native.Mathlib.Omega.{arith}
 use borrow.Author.Tests.{not-true, not-false}
+use Rattle.checks.specs.Tests.{checkedBy}
 use Rattle.checks.proofs.Passed.{memory-size, amount-of-states, log-size}
 use Rattle.search.proofs.check_options.Statement.{statement}
 use Rattle.search.proofs.check_options.Tie as tie
@@ -10,6 +11,7 @@ is-memory-size-requires : tie.Need-is-memory-size-requires
 is-memory-size-requires c κs = search needs
 
 returns : tie.Need-returns
+unfolding checkedBy
 returns c = rw (
   ← c .before .is-memory-size .ensures,
   not-true (c .before .is-memory-size .result) (c .if1 .taken),
@@ -19,6 +21,7 @@ is-amount-of-states-requires : tie.Need-is-amount-of-states-requires
 is-amount-of-states-requires c κs = search needs
 
 returns-2 : tie.Need-returns-2
+unfolding checkedBy
 returns-2 c = rw (
   ← c .before .before .before .is-memory-size .ensures,
   not-false (c .before .before .before .is-memory-size .result) (c .before .before .if1 .left),
@@ -30,6 +33,7 @@ is-copy-ratio-requires : tie.Need-is-copy-ratio-requires
 is-copy-ratio-requires c κs = search needs
 
 returns-3 : tie.Need-returns-3
+unfolding checkedBy
 returns-3 c = rw (
   ← c .before .before .before .before .before .is-memory-size .ensures,
   not-false (c .before .before .before .before .before .is-memory-size .result) (c .before .before .before .before .if1 .left),
@@ -43,6 +47,7 @@ is-log-size-requires : tie.Need-is-log-size-requires
 is-log-size-requires c κs = search needs
 
 returns-4 : tie.Need-returns-4
+unfolding checkedBy
 returns-4 c = rw (
   ← c .before .before .before .before .before .before .before .is-memory-size .ensures,
   not-false (c .before .before .before .before .before .before .before .is-memory-size .result) (c .before .before .before .before .before .before .if1 .left),
@@ -65,6 +70,7 @@ are-lengths-requires c κs =
     (s .1, (omega (arith, m .2), log-size (c .before .before .before .before .before .before .before .before .before .args .log) (sym (log .ensures) ∙ not-false (log .result) (c .before .if4 .left))))
 
 returns-5 : tie.Need-returns-5
+unfolding checkedBy
 returns-5 c = rw (
   ← c .before .before .before .before .before .before .before .before .before .before .is-memory-size .ensures,
   not-false (c .before .before .before .before .before .before .before .before .before .before .is-memory-size .result) (c .before .before .before .before .before .before .before .before .before .if1 .left),
@@ -79,6 +85,7 @@ returns-5 c = rw (
 )
 
 returns-6 : tie.Need-returns-6
+unfolding checkedBy
 returns-6 c = rw (
   ← c .before .before .before .before .before .before .before .before .before .before .is-memory-size .ensures,
   not-false (c .before .before .before .before .before .before .before .before .before .before .is-memory-size .result) (c .before .before .before .before .before .before .before .before .before .if1 .left),

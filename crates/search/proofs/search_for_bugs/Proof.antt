@@ -1,7 +1,7 @@
 use borrow.Author.Needs.{needs}
 use mathlib.Core.Path.{_∙_}
 use native.Mathlib.Omega.{arith}
-use Rattle.loader.specs.Loading.{segment, program}
+use Rattle.loader.specs.Loading.{image}
 use Rattle.search.proofs.Accepted.{checked-as, allowed, allowed-demand}
 use Rattle.search.proofs.Leaving.{left-refused, lent-fit, code-inside, data-inside, still-fit, left-accepted, all-zero}
 use Rattle.search.proofs.search_for_bugs.Statement.{statement}
@@ -16,7 +16,7 @@ enum-told c = search needs
 new-requires : tie.Need-new-requires
 new-requires c κs =
     let a = c .before .before .before .before .before .before .before .before .before .args in
-    let p = program (segment (a .code-address) (a .code .now)) (segment (a .data-address) (a .«data» .now)) in
+    let p = image (a .code-address) (a .code .now) (a .data-address) (a .«data» .now) in
     let checks = c .before .before .before .check-call .ensures in
     let passed = c .before .enum-told .given .1 in
     let call-is = allowed (a .options) (a .log) p (a .words .now) (a .marks .now) checks passed in
@@ -25,7 +25,7 @@ new-requires c κs =
 zero-rows-requires : tie.Need-zero-rows-requires
 zero-rows-requires c κs =
     let a = c .before .before .before .before .before .before .before .before .before .before .before .before .args in
-    let p = program (segment (a .code-address) (a .code .now)) (segment (a .data-address) (a .«data» .now)) in
+    let p = image (a .code-address) (a .code .now) (a .data-address) (a .«data» .now) in
     let checks = c .before .before .before .before .before .before .check-call .ensures in
     let passed = c .before .before .before .before .enum-told .given .1 in
     let call-is = allowed (a .options) (a .log) p (a .words .now) (a .marks .now) checks passed in
@@ -34,7 +34,7 @@ zero-rows-requires c κs =
 search-rounds-requires : tie.Need-search-rounds-requires
 search-rounds-requires c κs =
     let a = c .before .before .before .before .before .before .before .before .before .before .before .before .before .before .before .before .before .before .before .args in
-    let p = program (segment (a .code-address) (a .code .now)) (segment (a .data-address) (a .«data» .now)) in
+    let p = image (a .code-address) (a .code .now) (a .data-address) (a .«data» .now) in
     let checks = c .before .before .before .before .before .before .before .before .before .before .before .before .before .check-call .ensures in
     let passed = c .before .before .before .before .before .before .before .before .before .before .before .enum-told .given .1 in
     let call-is = allowed (a .options) (a .log) p (a .words .now) (a .marks .now) checks passed in
@@ -56,7 +56,7 @@ same-length-2 c = search needs
 returns : tie.Need-returns
 returns c =
     let a = c .before .before .before .before .before .before .before .before .before .before .before .before .before .before .before .before .before .before .before .before .before .before .before .before .args in
-    let p = program (segment (a .code-address) (a .code .now)) (segment (a .data-address) (a .«data» .now)) in
+    let p = image (a .code-address) (a .code .now) (a .data-address) (a .«data» .now) in
     let checks = c .before .before .before .before .before .before .before .before .before .before .before .before .before .before .before .before .before .before .check-call .ensures in
     let passed = c .before .before .before .before .before .before .before .before .before .before .before .before .before .before .before .before .enum-told .given .1 in
     let call-is = allowed (a .options) (a .log) p (a .words .now) (a .marks .now) checks passed in
@@ -72,7 +72,7 @@ returns c =
 returns-2 : tie.Need-returns-2
 returns-2 c =
     let a = c .before .before .before .before .before .before .before .before .before .args in
-    let p = program (segment (a .code-address) (a .code .now)) (segment (a .data-address) (a .«data» .now)) in
+    let p = image (a .code-address) (a .code .now) (a .data-address) (a .«data» .now) in
     let refused = checked-as (a .options) (a .log) p (a .words .now) (a .marks .now) (c .before .before .before .check-call .ensures) (c .before .checked .given .1) in (
       left-refused (a .options) (a .log) p (a .tape .now) (a .words .now) (a .marks .now) _ refused,
       allowed-demand (a .options) (a .log) p (a .words .now) (a .marks .now) (a .tape .now),

@@ -2,7 +2,7 @@ use mathlib.Core.Path.{sym, _∙_}
 use Prim.Native.Nat.{_-_}
 use native.Mathlib.Omega.{arith}
 use borrow.Author.Needs.{needs}
-use Rattle.loader.specs.Loading.{segment, program}
+use Rattle.loader.specs.Loading.{image}
 use Rattle.rounds.specs.Calls.{call}
 use Rattle.search.proofs.Turning.{Going, begins, going-limits, goes-on, ends-with, done}
 use Rattle.search.proofs.search_rounds.Statement.{statement}
@@ -10,7 +10,7 @@ use Rattle.search.proofs.search_rounds.Tie as tie
 
 abbrev Inv-loop : tie.InvT-loop
 Inv-loop words₀ marks₀ store options code-address code data-address «data» tape kept₀ used₀ i₀ words marks kept used i =
-    Going (call options store (program (segment code-address code) (segment data-address «data»)) tape) (options .iterations) i words marks kept used
+    Going (call options store (image code-address code data-address «data») tape) (options .iterations) i words marks kept used
 
 abbrev μ-loop : tie.MeasureT-loop
 μ-loop words₀ marks₀ store options code-address code data-address «data» tape kept₀ used₀ i₀ words marks kept used i = options .iterations - i
