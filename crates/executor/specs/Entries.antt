@@ -2,7 +2,9 @@
 use mathlib.Core.List.{List, [], _∷_, _++_}
 use Prim.Native.Nat.{ℕ, _/_}
 use lib.ListN.{length}
+use Rattle.answers.specs.Answers.{refusedAnswer}
 use Rattle.answers.specs.Numbers.{progressNumber, progressValue}
+use Rattle.answers.specs.declared.answer.Answer.{Answer}
 use Rattle.answers.specs.declared.outcome.Outcome.the-variants.{Exited, Found, Failed}
 use Rattle.answers.specs.declared.outcome.Progress.{Progress}
 use Rattle.answers.specs.declared.outcome.Progress.the-variants.{Running, Ended}
@@ -56,25 +58,21 @@ runAnswered (checked.Refused f) step tape r = record { row = r; answer = answer.
 unfoldable pub runEntry : ℕ → ℕ → ℕ → List ℕ → Row → Answered
 runEntry memory log step tape r = runAnswered (runChecked memory log r) step tape r
 
--- document 01's number, pc, value and used count of a run's answer; the row is 0, and what has no use is 0
+-- a clean end names no pc
 abbrev pub pcOfEnd : Progress → ℕ → ℕ
 pcOfEnd Running pc = pc
 pcOfEnd (Ended Exited) pc = 0
 pcOfEnd (Ended (Found b)) pc = pc
 pcOfEnd (Ended (Failed e)) pc = pc
 
-abbrev pub answerNumber : RunAnswer → ℕ
-answerNumber (answer.Refused f) = refusalNumber f
-answerNumber (answer.Ran x) = progressNumber (x .progress)
-
-abbrev pub answerPc : RunAnswer → ℕ
-answerPc (answer.Refused f) = 0
-answerPc (answer.Ran x) = pcOfEnd (x .progress) (x .pc)
-
-abbrev pub answerValue : RunAnswer → ℕ
-answerValue (answer.Refused f) = 0
-answerValue (answer.Ran x) = progressValue (x .progress)
-
-abbrev pub answerUsed : RunAnswer → ℕ
-answerUsed (answer.Refused f) = 0
-answerUsed (answer.Ran x) = x .used
+-- document 01's answer of a run; its row is 0
+abbrev pub runAnswer : RunAnswer → Answer
+runAnswer (answer.Refused f) = refusedAnswer (refusalNumber f)
+runAnswer (answer.Ran x) =
+    record {
+      number = progressNumber (x .progress);
+      row = 0;
+      pc = pcOfEnd (x .progress) (x .pc);
+      value = progressValue (x .progress);
+      used = x .used;
+    }

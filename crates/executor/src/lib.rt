@@ -7,7 +7,8 @@ ghost use Rattle.rows.specs.Rows.{row};
 ghost use Rattle.loader.specs.Loading.{image};
 ghost use Rattle.checks.specs.Tests.{checkedBy};
 ghost use Rattle.executor.specs.Entries.{creationChecked, createdRow, sizeTests, runEntry, answered};
-ghost use Rattle.executor.specs.Entries.{pcOfEnd, answerNumber, answerPc, answerValue, answerUsed};
+ghost use Rattle.executor.specs.Entries.{pcOfEnd, runAnswer};
+use answers::answer::Answer;
 use answers::outcome::Outcome;
 use answers::outcome::Progress;
 use checks::refusal::Checked;
@@ -113,49 +114,26 @@ fn pc_of_end(progress: Progress, pc: u64) -> u64
     }
 }
 
+fn answer_of(ran: Ran) -> Answer
+    ensures { λ r. ⌜ r ≡ runAnswer (RunAnswer.Ran ran) ⌝ }
+{
+    let progress = ran.progress;
+    Answer {
+        number: progress.number(),
+        row: 0,
+        pc: pc_of_end(progress, ran.pc),
+        value: progress.value(),
+        used: ran.used as u64,
+    }
+}
+
 impl RunAnswer {
-    pub fn number(self) -> u64
-        ensures { λ r. ⌜ r ≡ answerNumber self ⌝ }
+    pub fn answer(self) -> Answer
+        ensures { λ r. ⌜ r ≡ runAnswer self ⌝ }
     {
         match self {
-            RunAnswer::Refused(refusal) => refusal.number(),
-            RunAnswer::Ran(ran) => {
-                let progress = ran.progress;
-                progress.number()
-            }
-        }
-    }
-
-    pub fn pc(self) -> u64
-        ensures { λ r. ⌜ r ≡ answerPc self ⌝ }
-    {
-        match self {
-            RunAnswer::Refused(_) => 0,
-            RunAnswer::Ran(ran) => {
-                let progress = ran.progress;
-                pc_of_end(progress, ran.pc)
-            }
-        }
-    }
-
-    pub fn value(self) -> u64
-        ensures { λ r. ⌜ r ≡ answerValue self ⌝ }
-    {
-        match self {
-            RunAnswer::Refused(_) => 0,
-            RunAnswer::Ran(ran) => {
-                let progress = ran.progress;
-                progress.value()
-            }
-        }
-    }
-
-    pub fn used(self) -> usize
-        ensures { λ r. ⌜ r ≡ answerUsed self ⌝ }
-    {
-        match self {
-            RunAnswer::Refused(_) => 0,
-            RunAnswer::Ran(ran) => ran.used,
+            RunAnswer::Refused(refusal) => Answer::refused(refusal.number()),
+            RunAnswer::Ran(ran) => answer_of(ran),
         }
     }
 }

@@ -5,7 +5,7 @@ use mathlib.Core.List.{List, [], _∷_, _++_}
 use Prim.Native.Nat.{ℕ, zero, suc, _+_, _/_, _%_}
 use lib.Dec.{ltb}
 use lib.ListN.{length, drop}
-use Rattle.lines.specs.declared.Answer.{Answer}
+use Rattle.answers.specs.declared.answer.Answer.{Answer}
 
 -- the decimal digits of n, at most k of them; 48 is "0"
 unfoldable pub digitsUpTo : ℕ → ℕ → List ℕ

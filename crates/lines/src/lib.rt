@@ -4,20 +4,12 @@ ghost use Prim.Native.Nat.{_+_, _*_, _≤_};
 ghost use lib.ListN.{length};
 ghost use Rattle.lines.specs.Lines.{lines, written, answerLine, inputLabel, numberLine, inputLines};
 ghost use Rattle.lines.specs.Writing.{Wrote};
+use answers::answer::Answer;
 use put::put;
 use put::put_labelled;
 use put::put_line;
 
 mod put;
-
-// Document 01's numbers of an answer.
-pub struct Answer {
-    pub number: u64,
-    pub row: u64,
-    pub pc: u64,
-    pub value: u64,
-    pub used: u64,
-}
 
 fn put_answer(out: &mut [u8], answer: Answer) -> usize
     requires { ⌜ 104 ≤ length (now out) ⌝ }

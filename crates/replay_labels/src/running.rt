@@ -3,6 +3,7 @@ ghost use Prim.Native.Nat.{_≤_};
 ghost use lib.ListN.{length};
 use crate::sizes::Sizes;
 use crate::sizes::sizes_at;
+use answers::answer::Answer;
 use replay_lists::columns::number_at;
 use replay_lists::digest::digest_of;
 
@@ -36,14 +37,6 @@ const MOST_MARK: u64 = 255;
 
 // One more than the largest step.
 const STEPS: u64 = 0x1_0000_0000;
-
-// What a run answers, in the line's columns.
-struct Answer {
-    number: u64,
-    pc: u64,
-    value: u64,
-    used: usize,
-}
 
 struct Made {
     well_formed: bool,
@@ -88,9 +81,9 @@ fn change(numbers: &[u64], at: usize, words: &mut [u64], marks: &mut [u8]) -> bo
     }
 }
 
-// A run of a whole row, in the line's columns.
+// A run of a whole row.
 fn answer_of(words: &mut [u64], marks: &mut [u8], sizes: Sizes, step: u64, tape: &[u64]) -> Answer {
-    let answer = executor::run(
+    let ran = executor::run(
         words,
         marks,
         sizes.memory,
@@ -98,12 +91,7 @@ fn answer_of(words: &mut [u64], marks: &mut [u8], sizes: Sizes, step: u64, tape:
         (step % STEPS) as u32,
         tape,
     );
-    Answer {
-        number: answer.number(),
-        pc: answer.pc(),
-        value: answer.value(),
-        used: answer.used(),
-    }
+    ran.answer()
 }
 
 // A run of what the line lends.
@@ -127,7 +115,7 @@ fn is_answer(numbers: &[u64], at: usize, answer: Answer) -> bool
     answer.number == number_at(numbers, at + NUMBER)
         && answer.pc == number_at(numbers, at + PC)
         && answer.value == number_at(numbers, at + VALUE)
-        && answer.used as u64 == number_at(numbers, at + USED)
+        && answer.used == number_at(numbers, at + USED)
 }
 
 // The change and the run in the columns from `at` on.
@@ -166,6 +154,6 @@ pub(crate) fn replay_run(
         agrees: made.well_formed
             && is_answer(numbers, at, answer)
             && digest == number_at(numbers, at + DIGEST),
-        used: answer.used,
+        used: answer.used as usize,
     }
 }

@@ -70,10 +70,11 @@ pub(crate) fn search_line(
     search_with(numbers, layout, &numbers[tape..end], words, marks)
 }
 
-pub(crate) fn is_answer(numbers: &[u64], answer: SearchAnswer) -> bool {
-    answer.number() == number_at(numbers, NUMBER)
-        && answer.row() as u64 == number_at(numbers, ROW)
-        && answer.pc() == number_at(numbers, PC)
-        && answer.value() == number_at(numbers, VALUE)
-        && answer.used() as u64 == number_at(numbers, USED)
+pub(crate) fn is_answer(numbers: &[u64], searched: SearchAnswer) -> bool {
+    let answer = searched.answer();
+    answer.number == number_at(numbers, NUMBER)
+        && answer.row == number_at(numbers, ROW)
+        && answer.pc == number_at(numbers, PC)
+        && answer.value == number_at(numbers, VALUE)
+        && answer.used == number_at(numbers, USED)
 }

@@ -2,15 +2,16 @@
 use mathlib.Core.Path.{_≡_, sym, ap, _∙_}
 use mathlib.Core.List.{List, []}
 use Prim.Native.Nat.{ℕ}
+use Rattle.answers.specs.Answers.{refusedAnswer}
+use Rattle.answers.specs.declared.answer.Answer.{Answer}
 use Rattle.lines.specs.Lines.{lines}
-use Rattle.lines.specs.declared.Answer.{Answer}
 use Rattle.sheet.specs.Sheets.{parsed, benchLimits, sheetNumber}
 use Rattle.sheet.specs.declared.limits.Limits.{Limits}
 use Rattle.sheet.specs.declared.parse.Sheet.{Sheet}
 use Rattle.sheet.specs.declared.parse.SheetError.{SheetError}
 use Rattle.sheet.specs.declared.parse.Parsed.{Parsed}
 use Rattle.sheet.specs.declared.parse.Parsed.the-variants.{Refused, Accepted}
-use Rattle.report.specs.Reports.{refusedAnswer, searchPrinted, printedBy, printed}
+use Rattle.report.specs.Reports.{searchPrinted, printedBy, printed}
 use Rattle.report.specs.Printing.{Printed}
 
 pub printed-as : {text text' out out' : List ℕ} {count : ℕ} → text ≡ text' → Printed text out out' count → Printed text' out out' count

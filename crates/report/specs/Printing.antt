@@ -7,8 +7,9 @@ use Rattle.rows.specs.Rows.{Row, header}
 use Rattle.store.specs.Store.{rowsOf, rowAt}
 use Rattle.store.specs.declared.layout.Layout.{Layout}
 use Rattle.lines.specs.Lines.{lines, written}
+use Rattle.search.specs.Entry.{searchAnswer}
 use Rattle.search.specs.declared.answer.SearchAnswer.{SearchAnswer}
-use Rattle.report.specs.Reports.{logOf, searchAnswer, toldInputs}
+use Rattle.report.specs.Reports.{logOf, toldInputs}
 use Rattle.report.specs.declared.inputs.Span.{Span}
 
 -- a text at the front of an output that held out before, and how many bytes it has

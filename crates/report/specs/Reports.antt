@@ -2,27 +2,20 @@
 use mathlib.Core.List.{List, []}
 use Prim.Native.Nat.{ℕ, _*_, _/_}
 use lib.ListN.{take, drop, replicate}
+use Rattle.answers.specs.Answers.{refusedAnswer}
 use Rattle.rows.specs.Rows.{Row, rowWords, rowMarks, logCount, logStart}
 use Rattle.store.specs.Store.{rowsOf, rowAt}
 use Rattle.rounds.specs.Calls.{layoutOf}
 use Rattle.rounds.specs.declared.finding.Finding.{Finding}
 use Rattle.rounds.specs.declared.finding.Finding.the-variants as finding
-use Rattle.search.specs.Entry.{Left, searchEntry, answerNumber, answerRow, answerPc, answerValue, answerUsed}
+use Rattle.search.specs.Entry.{Left, searchEntry, searchAnswer}
 use Rattle.search.specs.declared.answer.SearchAnswer.{SearchAnswer}
 use Rattle.search.specs.declared.answer.SearchAnswer.the-variants.{Refused, Searched}
 use Rattle.lines.specs.Lines.{lines}
-use Rattle.lines.specs.declared.Answer.{Answer}
 use Rattle.sheet.specs.Sheets.{parsed, benchLimits, sheetNumber, imageOf, tapeOf}
 use Rattle.sheet.specs.declared.parse.Sheet.{Sheet}
 use Rattle.sheet.specs.declared.parse.Parsed.{Parsed}
 use Rattle.sheet.specs.declared.parse.Parsed.the-variants as sheet
-
--- a refused sheet prints zeros after its number
-abbrev pub refusedAnswer : ℕ → Answer
-refusedAnswer number = record { number = number; row = 0; pc = 0; value = 0; used = 0 }
-
-abbrev pub searchAnswer : SearchAnswer → Answer
-searchAnswer a = record { number = answerNumber a; row = answerRow a; pc = answerPc a; value = answerValue a; used = answerUsed a }
 
 -- the logged words of a row
 abbrev pub logOf : Row → List ℕ
@@ -52,6 +45,7 @@ searchPrinted s h =
     let x = sheetLeft s h in
     lines (searchAnswer (x .answer)) (toldInputs (x .answer) (rowsOf (layoutOf (h .options) (h .log)) (x .words) (x .marks)))
 
+-- a refused sheet prints zeros after its number
 unfoldable pub printedBy : List ℕ → Parsed → List ℕ
 printedBy s (sheet.Refused e) = lines (refusedAnswer (sheetNumber e)) []
 printedBy s (sheet.Accepted h) = searchPrinted s h

@@ -4,18 +4,19 @@ ghost use mathlib.Core.Path.{_≡_};
 ghost use mathlib.Core.List.{List, []};
 ghost use Prim.Native.Nat.{ℕ, _+_, _*_, _≤_};
 ghost use lib.ListN.{length, take};
+ghost use Rattle.answers.specs.Answers.{refusedAnswer};
 ghost use Rattle.lines.specs.Lines.{lines, written};
 ghost use Rattle.sheet.specs.Sheets.{parsed, benchLimits, sheetNumber};
 ghost use Rattle.sheet.specs.declared.parse.Parsed.the-variants.{Accepted};
 ghost use Rattle.store.specs.Store.{rowsOf};
-ghost use Rattle.report.specs.Reports.{printed, refusedAnswer, searchAnswer, searchPrinted};
+ghost use Rattle.report.specs.Reports.{printed, searchPrinted};
 ghost use Rattle.report.specs.Printing.{Printed, Lent, answerLines};
 
 mod inputs;
 mod searching;
 
+use answers::answer::Answer;
 use inputs::told_inputs;
-use lines::Answer;
 use lines::write_lines;
 use search::answer::SearchAnswer;
 use searching::search_sheet;
@@ -41,27 +42,8 @@ const MOST_MARKS: usize = 1280;
 fn report_refusal(error: SheetError, out: &mut [u8; MOST_PRINTED]) -> usize
     ensures { λ r. ⌜ Printed (lines (refusedAnswer (sheetNumber error)) []) (now (out .entry)) (now (out .exit)) r ⌝ }
 {
-    let answer = Answer {
-        number: error.number(),
-        row: 0,
-        pc: 0,
-        value: 0,
-        used: 0,
-    };
     let none = [0u64; 0];
-    write_lines(answer, &none, out)
-}
-
-fn answer_of(answer: SearchAnswer) -> Answer
-    ensures { λ r. ⌜ r ≡ searchAnswer answer ⌝ }
-{
-    Answer {
-        number: answer.number(),
-        row: answer.row() as u64,
-        pc: answer.pc(),
-        value: answer.value(),
-        used: answer.used() as u64,
-    }
+    write_lines(Answer::refused(error.number()), &none, out)
 }
 
 // Prints an answer, and the inputs that it tells from the words of its store.
@@ -77,7 +59,7 @@ fn report_answer(
     let told = told_inputs(answer, store, words);
     let from = told.from;
     let to = told.to;
-    write_lines(answer_of(answer), &words[from..to], out)
+    write_lines(answer.answer(), &words[from..to], out)
 }
 
 // The search, on a store of just the lengths that the sheet asks for.

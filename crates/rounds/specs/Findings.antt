@@ -1,33 +1,24 @@
--- Document 01's number, row, pc and value of every way in which a search can end.
+-- Document 01's answer for every way in which a search can end.
 use Prim.Native.Nat.{ℕ}
-use Rattle.answers.specs.Numbers.{bugNumber, bugValue, errorNumber, errorValue}
+use Rattle.answers.specs.Numbers.{outcomeNumber, outcomeValue}
+use Rattle.answers.specs.declared.answer.Answer.{Answer}
+use Rattle.answers.specs.declared.outcome.Outcome.{Outcome}
+use Rattle.answers.specs.declared.outcome.Outcome.the-variants as outcome
 use Rattle.rounds.specs.declared.finding.Finding.{Finding}
 use Rattle.rounds.specs.declared.finding.Finding.the-variants.{Nothing, Found, Failed, TapeShort, ScoresUnordered}
 
-abbrev pub findingNumber : Finding → ℕ
-findingNumber Nothing = 0
-findingNumber (Found bug row pc) = bugNumber bug
-findingNumber (Failed error row pc) = errorNumber error
-findingNumber TapeShort = 8
-findingNumber ScoresUnordered = 31
+-- bugs and executor errors carry the row and the pc before the instruction
+abbrev pub inRow : Outcome → ℕ → ℕ → ℕ → Answer
+inRow o row pc used = record { number = outcomeNumber o; row = row; pc = pc; value = outcomeValue o; used = used }
 
-abbrev pub findingRow : Finding → ℕ
-findingRow Nothing = 0
-findingRow (Found bug row pc) = row
-findingRow (Failed error row pc) = row
-findingRow TapeShort = 0
-findingRow ScoresUnordered = 0
+-- other numbers carry neither
+abbrev pub inNoRow : ℕ → ℕ → Answer
+inNoRow number used = record { number = number; row = 0; pc = 0; value = 0; used = used }
 
-abbrev pub findingPc : Finding → ℕ
-findingPc Nothing = 0
-findingPc (Found bug row pc) = pc
-findingPc (Failed error row pc) = pc
-findingPc TapeShort = 0
-findingPc ScoresUnordered = 0
-
-abbrev pub findingValue : Finding → ℕ
-findingValue Nothing = 0
-findingValue (Found bug row pc) = bugValue bug
-findingValue (Failed error row pc) = errorValue error
-findingValue TapeShort = 0
-findingValue ScoresUnordered = 0
+-- after so many tape words: 8 where filling finds too few, 31 where scores cannot be ordered, 0 after the last round
+abbrev pub findingAnswer : Finding → ℕ → Answer
+findingAnswer Nothing used = inNoRow 0 used
+findingAnswer (Found bug row pc) used = inRow (outcome.Found bug) row pc used
+findingAnswer (Failed error row pc) used = inRow (outcome.Failed error) row pc used
+findingAnswer TapeShort used = inNoRow 8 used
+findingAnswer ScoresUnordered used = inNoRow 31 used

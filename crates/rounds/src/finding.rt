@@ -1,6 +1,7 @@
 // What a search comes to (the Rust's Result<Option<Bug>, RaritySimulationError>).
 ghost use mathlib.Core.Path.{_≡_};
-ghost use Rattle.rounds.specs.Findings.{findingNumber, findingRow, findingPc, findingValue};
+ghost use Rattle.rounds.specs.Findings.{inRow, inNoRow, findingAnswer};
+use answers::answer::Answer;
 use answers::bug::Bug;
 use answers::error::ExecutorError;
 use answers::outcome::Outcome;
@@ -26,68 +27,41 @@ pub enum Finding {
     ScoresUnordered,
 }
 
+fn in_row(outcome: Outcome, row: usize, pc: u64, used: usize) -> Answer
+    ensures { λ r. ⌜ r ≡ inRow outcome row pc used ⌝ }
+{
+    Answer {
+        number: outcome.number(),
+        row: row as u64,
+        pc,
+        value: outcome.value(),
+        used: used as u64,
+    }
+}
+
+fn in_no_row(number: u64, used: usize) -> Answer
+    ensures { λ r. ⌜ r ≡ inNoRow number used ⌝ }
+{
+    Answer {
+        number,
+        row: 0,
+        pc: 0,
+        value: 0,
+        used: used as u64,
+    }
+}
+
 impl Finding {
-    pub fn number(self) -> u64
-        ensures { λ r. ⌜ r ≡ findingNumber self ⌝ }
+    // The answer of a search that has come to this, and has taken `used` tape words.
+    pub fn answer(self, used: usize) -> Answer
+        ensures { λ r. ⌜ r ≡ findingAnswer self used ⌝ }
     {
         match self {
-            Finding::Nothing => 0,
-            Finding::Found { bug, row: _, pc: _ } => Outcome::Found(bug).number(),
-            Finding::Failed {
-                error,
-                row: _,
-                pc: _,
-            } => Outcome::Failed(error).number(),
-            Finding::TapeShort => 8,
-            Finding::ScoresUnordered => 31,
-        }
-    }
-
-    pub fn row(self) -> usize
-        ensures { λ r. ⌜ r ≡ findingRow self ⌝ }
-    {
-        match self {
-            Finding::Nothing => 0,
-            Finding::Found { bug: _, row, pc: _ } => row,
-            Finding::Failed {
-                error: _,
-                row,
-                pc: _,
-            } => row,
-            Finding::TapeShort => 0,
-            Finding::ScoresUnordered => 0,
-        }
-    }
-
-    pub fn pc(self) -> u64
-        ensures { λ r. ⌜ r ≡ findingPc self ⌝ }
-    {
-        match self {
-            Finding::Nothing => 0,
-            Finding::Found { bug: _, row: _, pc } => pc,
-            Finding::Failed {
-                error: _,
-                row: _,
-                pc,
-            } => pc,
-            Finding::TapeShort => 0,
-            Finding::ScoresUnordered => 0,
-        }
-    }
-
-    pub fn value(self) -> u64
-        ensures { λ r. ⌜ r ≡ findingValue self ⌝ }
-    {
-        match self {
-            Finding::Nothing => 0,
-            Finding::Found { bug, row: _, pc: _ } => Outcome::Found(bug).value(),
-            Finding::Failed {
-                error,
-                row: _,
-                pc: _,
-            } => Outcome::Failed(error).value(),
-            Finding::TapeShort => 0,
-            Finding::ScoresUnordered => 0,
+            Finding::Nothing => in_no_row(0, used),
+            Finding::Found { bug, row, pc } => in_row(Outcome::Found(bug), row, pc, used),
+            Finding::Failed { error, row, pc } => in_row(Outcome::Failed(error), row, pc, used),
+            Finding::TapeShort => in_no_row(8, used),
+            Finding::ScoresUnordered => in_no_row(31, used),
         }
     }
 }

@@ -3,6 +3,8 @@ use mathlib.Core.List.{List, [], _∷_, _++_}
 use mathlib.Core.Path.{_≡_}
 use Prim.Native.Nat.{ℕ, _/_}
 use lib.ListN.{length}
+use Rattle.answers.specs.Answers.{refusedAnswer}
+use Rattle.answers.specs.declared.answer.Answer.{Answer}
 use Rattle.checks.specs.Refusals.{refusalNumber, isMemorySize, isAmountOfStates, isCopyRatio, isLogSize, areLengths}
 use Rattle.checks.specs.Segments.{segmentTests}
 use Rattle.checks.specs.Tests.{Test, test, checkedBy}
@@ -14,7 +16,7 @@ use Rattle.rows.specs.Rows.{Row}
 use Rattle.store.specs.Store.{wordsOf, marksOf}
 use Rattle.rounds.specs.Calls.{layoutOf, call}
 use Rattle.rounds.specs.Demand.{Demand}
-use Rattle.rounds.specs.Findings.{findingNumber, findingRow, findingPc, findingValue}
+use Rattle.rounds.specs.Findings.{findingAnswer}
 use Rattle.rounds.specs.Rounds.{Searched, searched}
 use Rattle.rounds.specs.declared.options.RaritySimulationOptions.{RaritySimulationOptions}
 use Rattle.search.specs.declared.answer.SearchAnswer.{SearchAnswer}
@@ -66,23 +68,7 @@ searchEntry o log p tape words marks = searchLeft (searchChecked o log p words m
 abbrev pub Demanded : RaritySimulationOptions → ℕ → Program → List ℕ → List ℕ → List ℕ → Type 0
 Demanded o log p tape words marks = searchChecked o log p words marks ≡ checked.Accepted → Demand (call o (layoutOf o log) p tape)
 
--- document 01's number, row, pc, value and used count of an answer; what has no use is 0
-abbrev pub answerNumber : SearchAnswer → ℕ
-answerNumber (answer.Refused f) = refusalNumber f
-answerNumber (answer.Searched finding used) = findingNumber finding
-
-abbrev pub answerRow : SearchAnswer → ℕ
-answerRow (answer.Refused f) = 0
-answerRow (answer.Searched finding used) = findingRow finding
-
-abbrev pub answerPc : SearchAnswer → ℕ
-answerPc (answer.Refused f) = 0
-answerPc (answer.Searched finding used) = findingPc finding
-
-abbrev pub answerValue : SearchAnswer → ℕ
-answerValue (answer.Refused f) = 0
-answerValue (answer.Searched finding used) = findingValue finding
-
-abbrev pub answerUsed : SearchAnswer → ℕ
-answerUsed (answer.Refused f) = 0
-answerUsed (answer.Searched finding used) = used
+-- document 01's answer
+abbrev pub searchAnswer : SearchAnswer → Answer
+searchAnswer (answer.Refused f) = refusedAnswer (refusalNumber f)
+searchAnswer (answer.Searched finding used) = findingAnswer finding used

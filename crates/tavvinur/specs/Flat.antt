@@ -5,9 +5,10 @@ use mathlib.Core.Path.{_≡_}
 use Prim.Native.Nat.{ℕ}
 use lib.Dec.{eqb, leb}
 use lib.Ieee.{Float}
+use Rattle.answers.specs.Answers.{refusedAnswer}
+use Rattle.answers.specs.declared.answer.Answer.{Answer}
 use Rattle.checks.specs.declared.refusal.Checked.the-variants.{Accepted}
 use Rattle.executor.specs.Entries as run
-use Rattle.executor.specs.declared.RunAnswer.{RunAnswer}
 use Rattle.means.specs.declared.MeanType.{MeanType}
 use Rattle.means.specs.declared.MeanType.the-variants.{Arithmetic, Harmonic}
 use Rattle.rows.specs.Rows.{Row, row}
@@ -16,8 +17,6 @@ use Rattle.rounds.specs.declared.options.RaritySimulationOptions.{RaritySimulat
 use Rattle.scoring.specs.Entry as scoring
 use Rattle.scoring.specs.declared.ScoringAnswer.{ScoringAnswer}
 use Rattle.search.specs.Entry as search
-use Rattle.search.specs.declared.answer.SearchAnswer.{SearchAnswer}
-use Rattle.tavvinur.specs.declared.Answer.{Answer}
 use Rattle.tavvinur.specs.declared.Options.{Options}
 
 -- 0 arithmetic, 1 harmonic; 53 refuses what is above
@@ -38,16 +37,6 @@ optionsOf o =
       «copy_init_ratio» = o .«copy_init_ratio»;
       mean = meanOf (o .mean);
     }
-
-abbrev pub refused : ℕ → Answer
-refused number = record { number = number; row = 0; pc = 0; value = 0; used = 0 }
-
--- a single executor's row is row 0
-abbrev pub ofRun : RunAnswer → Answer
-ofRun a = record { number = run.answerNumber a; row = 0; pc = run.answerPc a; value = run.answerValue a; used = run.answerUsed a }
-
-abbrev pub ofSearch : SearchAnswer → Answer
-ofSearch a = record { number = search.answerNumber a; row = search.answerRow a; pc = search.answerPc a; value = search.answerValue a; used = search.answerUsed a }
 
 -- the options as they cross
 abbrev pub meanNumber : MeanType → ℕ
@@ -76,10 +65,10 @@ abbrev pub left : List ℕ → List ℕ → Answer → Left
 left words marks a = record { words = words; marks = marks; answer = a }
 
 abbrev pub leftByRun : run.Answered → Left
-leftByRun x = left (x .row .words) (x .row .marks) (ofRun (x .answer))
+leftByRun x = left (x .row .words) (x .row .marks) (run.runAnswer (x .answer))
 
 abbrev pub leftBySearch : search.Left → Left
-leftBySearch x = left (x .words) (x .marks) (ofSearch (x .answer))
+leftBySearch x = left (x .words) (x .marks) (search.searchAnswer (x .answer))
 
 -- the row after a call for a new executor
 abbrev pub creationLeft : ℕ → ℕ → Program → Row → Row
@@ -91,7 +80,7 @@ runLeft memory log step tape words marks = leftByRun (run.runEntry memory log st
 -- a mean above 1 is refused first, and nothing changes
 abbrev pub searchLeft : Options → ℕ → Program → List ℕ → List ℕ → List ℕ → Left
 searchLeft o log p tape words marks =
-    cond (leb (o .mean) 1) (leftBySearch (search.searchEntry (optionsOf o) log p tape words marks)) (left words marks (refused unknownMean))
+    cond (leb (o .mean) 1) (leftBySearch (search.searchEntry (optionsOf o) log p tape words marks)) (left words marks (refusedAnswer unknownMean))
 
 -- the lent scores after a call, with its number
 pub record Scores : Type 0 where

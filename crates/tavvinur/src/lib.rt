@@ -6,14 +6,13 @@ ghost use Rattle.loader.specs.Loading.{image};
 ghost use Rattle.checks.specs.Refusals.{checkedNumber};
 ghost use Rattle.executor.specs.Entries.{creationChecked};
 ghost use Rattle.rounds.specs.Defaults.{defaultOptions};
-ghost use Rattle.tavvinur.specs.Flat.{meanOf, meanNumber, optionsOf, flatOf, refused, ofRun, ofSearch};
+ghost use Rattle.tavvinur.specs.Flat.{meanOf, meanNumber, optionsOf, flatOf};
 ghost use Rattle.scoring.specs.Entry.{ScoresBounded};
 ghost use Rattle.search.specs.Entry.{Demanded};
 ghost use Rattle.tavvinur.specs.Flat.{left, creationLeft, runLeft, searchLeft, scoresWith, scoreLeft, AlwaysScored};
-use executor::RunAnswer;
+use answers::answer::Answer;
 use means::MeanType;
 use rounds::options::RaritySimulationOptions;
-use search::answer::SearchAnswer;
 
 // The options of a search; `mean` is 0 for arithmetic, 1 for harmonic.
 #[repr(C)]
@@ -25,16 +24,6 @@ pub struct Options {
     pub iterations: u32,
     pub mean: u32,
     pub copy_init_ratio: f64,
-}
-
-// Document 01's numbers of an answer; what has no use is 0.
-#[repr(C)]
-pub struct Answer {
-    pub number: u64,
-    pub row: u64,
-    pub pc: u64,
-    pub value: u64,
-    pub used: u64,
 }
 
 const MOST_MEAN: u32 = 1;
@@ -70,42 +59,6 @@ fn options_of(options: Options) -> RaritySimulationOptions
         iterations: options.iterations,
         copy_init_ratio: options.copy_init_ratio,
         mean: mean_of(options.mean),
-    }
-}
-
-fn refused(number: u64) -> Answer
-    ensures { λ r. ⌜ r ≡ refused number ⌝ }
-{
-    Answer {
-        number,
-        row: 0,
-        pc: 0,
-        value: 0,
-        used: 0,
-    }
-}
-
-fn of_run(answer: RunAnswer) -> Answer
-    ensures { λ r. ⌜ r ≡ ofRun answer ⌝ }
-{
-    Answer {
-        number: answer.number(),
-        row: 0,
-        pc: answer.pc(),
-        value: answer.value(),
-        used: answer.used() as u64,
-    }
-}
-
-fn of_search(answer: SearchAnswer) -> Answer
-    ensures { λ r. ⌜ r ≡ ofSearch answer ⌝ }
-{
-    Answer {
-        number: answer.number(),
-        row: answer.row() as u64,
-        pc: answer.pc(),
-        value: answer.value(),
-        used: answer.used() as u64,
     }
 }
 
@@ -169,7 +122,8 @@ pub extern "C" fn tavvinur_run(
 ) -> Answer
     ensures { λ r. ⌜ left (now (words .exit)) (now (marks .exit)) r ≡ runLeft memory log step (now (tape .entry)) (now (words .entry)) (now (marks .entry)) ⌝ }
 {
-    of_run(executor::run(words, marks, memory, log, step, tape))
+    let ran = executor::run(words, marks, memory, log, step, tape);
+    ran.answer()
 }
 
 // Scores the rows of a lent store among themselves, one score a row; 0, or the number that tells why not.
@@ -217,9 +171,9 @@ pub extern "C" fn tavvinur_search(
         (now (tape .entry)) (now (words .entry)) (now (marks .entry))) ⌝ }
 {
     if options.mean > MOST_MEAN {
-        return refused(UNKNOWN_MEAN);
+        return Answer::refused(UNKNOWN_MEAN);
     }
-    of_search(search::search_for_bugs(
+    let searched = search::search_for_bugs(
         words,
         marks,
         options_of(options),
@@ -229,5 +183,6 @@ pub extern "C" fn tavvinur_search(
         data_address,
         data,
         tape,
-    ))
+    );
+    searched.answer()
 }

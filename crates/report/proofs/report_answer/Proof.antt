@@ -8,8 +8,8 @@ use Rattle.report.proofs.report_answer.Tie as tie
 told-inputs-requires : tie.Need-told-inputs-requires
 told-inputs-requires c κs = c .before .pre
 
-answer-of-requires : tie.Need-answer-of-requires
-answer-of-requires c κs = search needs
+answer-requires : tie.Need-answer-requires
+answer-requires c κs = search needs
 
 mul-write-lines : tie.Need-mul-write-lines
 mul-write-lines c = omega (arith, c .before .told-inputs .ensures .ordered, c .before .told-inputs .ensures .inside)
@@ -31,7 +31,7 @@ returns c =
     let w = c .write-lines .ensures in
     let t = c .before .before .before .before .told-inputs .ensures in
     λ marks e.
-    let same = told-lines (c .before .before .before .answer-of .ensures) (t .told marks e) in
+    let same = told-lines (c .before .before .before .answer .ensures) (t .told marks e) in
     printed-as same (record { size = w .0; bytes = w .1 .0; room = omega (arith, w .1 .1) })
 
 pub report-answer-spec : {M : Type 1} → statement M
@@ -39,7 +39,7 @@ report-answer-spec =
     tie.close
     (tie.spec
     told-inputs-requires
-    answer-of-requires
+    answer-requires
     mul-write-lines
     sub-write-lines
     part-write-lines-start

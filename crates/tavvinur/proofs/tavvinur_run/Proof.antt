@@ -7,8 +7,8 @@ use Rattle.tavvinur.proofs.tavvinur_run.Tie as tie
 run-requires : tie.Need-run-requires
 run-requires c κs = search needs
 
-of-run-requires : tie.Need-of-run-requires
-of-run-requires c κs = search needs
+answer-requires : tie.Need-answer-requires
+answer-requires c κs = search needs
 
 same-length : tie.Need-same-length
 same-length c = search needs
@@ -17,8 +17,8 @@ same-length-2 : tie.Need-same-length-2
 same-length-2 c = search needs
 
 returns : tie.Need-returns
-returns c = rw (c .of-run .ensures) (ap leftByRun (c .before .before .before .before .before .run .ensures))
+returns c = rw (c .answer .ensures) (ap leftByRun (c .before .before .before .before .before .run .ensures))
 
 pub tavvinur-run-spec : {M : Type 1} → statement M
 tavvinur-run-spec =
-    tie.close (tie.spec run-requires of-run-requires same-length same-length-2 returns)
+    tie.close (tie.spec run-requires answer-requires same-length same-length-2 returns)

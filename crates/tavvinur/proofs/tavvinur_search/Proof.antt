@@ -19,8 +19,8 @@ options-of-requires c κs = search needs
 search-for-bugs-requires : tie.Need-search-for-bugs-requires
 search-for-bugs-requires c κs = search needs
 
-of-search-requires : tie.Need-of-search-requires
-of-search-requires c κs = search needs
+answer-requires : tie.Need-answer-requires
+answer-requires c κs = search needs
 
 same-length : tie.Need-same-length
 same-length c = search needs
@@ -32,7 +32,7 @@ returns-2 : tie.Need-returns-2
 returns-2 c =
     let options = c .before .before .before .before .before .before .options-of .ensures in
     let searched = c .before .before .before .before .before .search-for-bugs .ensures in (
-      rw (le-leb _ _ (c .before .before .before .before .before .before .before .before .before .if1 .left), c .of-search .ensures, ← options, ← searched .0),
+      rw (le-leb _ _ (c .before .before .before .before .before .before .before .before .before .if1 .left), c .answer .ensures, ← options, ← searched .0),
       λ _. rw options at (searched .1),
     )
 
@@ -44,7 +44,7 @@ tavvinur-search-spec =
     returns
     options-of-requires
     search-for-bugs-requires
-    of-search-requires
+    answer-requires
     same-length
     same-length-2
     returns-2)
