@@ -1,4 +1,4 @@
--- An answer in document 01's numbers.
+-- An answer in numbers, as a host gets it.
 use Prim.Native.Nat.{ℕ}
 use Rattle.answers.specs.declared.answer.Answer.{Answer}
 

@@ -11,8 +11,8 @@ pub enum Outcome {
     Failed(ExecutorError),
 }
 
-// What a step or a run comes to. A run that reached its limit is still running:
-// document 01's number 22, the Rust's ExecutionDepthReached.
+// What an instruction or a run comes to. A run that reached its limit is still running: number 22, the Rust's
+// ExecutionDepthReached.
 pub enum Progress {
     Running,
     Ended(Outcome),
