@@ -18,6 +18,7 @@ use Rattle.counting.specs.Cells.{baseOf}
 use Rattle.rounds.specs.Copies.{toCopy, nearest}
 use Rattle.rounds.specs.Rounds.{searchFrom, tapeShort, roundOf, ranOn, filled, runAll, firstBug, firstError, usedAfter}
 use Rattle.store.specs.Store.{cut, marksOf, wordsOf as storeWords}
+use Rattle.checks.specs.Tests.{checkedBy}
 use Rattle.search.specs.Entry.{searchChecked, searchLeft}
 use Rattle.sheet.specs.Sheets.{parsed, orDefault, wordsOf as sheetWords}
 use Rattle.lines.specs.Lines.{digitsUpTo, answerLine, inputLines, lines}
@@ -30,7 +31,7 @@ unfolding operated decoded decodedOp assign valueAt divuRemu toCopy nearest mul 
     fetched halfAt jalr applied runOf runFor newExecutor programmed started loaded loadedFrom sd validAddress invalidAddress storeTo
     continued advanced finished stepped interpreted executed followed signed effectIn effectOf binaryOp system callOf idOf syscallId exit
     searchFrom tapeShort roundOf ranOn filled runAll firstBug firstError usedAfter
-    cut marksOf storeWords searchChecked searchLeft parsed orDefault sheetWords
+    cut marksOf storeWords checkedBy searchChecked searchLeft parsed orDefault sheetWords
     digitsUpTo answerLine inputLines lines printedBy searchPrinted sheetLeft lowBytes inBytes
 cases =
     record {

@@ -13,7 +13,8 @@ mod put;
 
 fn put_answer(out: &mut [u8], answer: Answer) -> usize
     requires { ⌜ 104 ≤ length (now out) ⌝ }
-    ensures { λ r. ⌜ r ≤ 104 ⌝ ∗ ⌜ Wrote (now (out .entry)) 0 (answerLine answer) r (now (out .exit)) ⌝ }
+    ensures { λ r. ⌜ r ≤ 104 ⌝ }
+    ensures { λ r. ⌜ Wrote (now (out .entry)) 0 (answerLine answer) r (now (out .exit)) ⌝ }
 {
     let row = put_labelled(out, 0, b"answer ", answer.number);
     let pc = put_labelled(out, row, b" row ", answer.row);
@@ -24,14 +25,16 @@ fn put_answer(out: &mut [u8], answer: Answer) -> usize
 
 fn put_input(out: &mut [u8], at: usize, input: u64) -> usize
     requires { ⌜ at + 27 ≤ length (now out) ⌝ }
-    ensures { λ r. ⌜ r ≤ at + 27 ⌝ ∗ ⌜ Wrote (now (out .entry)) at (numberLine inputLabel input) r (now (out .exit)) ⌝ }
+    ensures { λ r. ⌜ r ≤ at + 27 ⌝ }
+    ensures { λ r. ⌜ Wrote (now (out .entry)) at (numberLine inputLabel input) r (now (out .exit)) ⌝ }
 {
     put_line(out, at, b"input ", input)
 }
 
 fn put_inputs(out: &mut [u8], at: usize, inputs: &[u64]) -> usize
     requires { ⌜ at + 27 * length (now inputs) ≤ length (now out) ⌝ }
-    ensures { λ r. ⌜ r ≤ at + 27 * length (now (inputs .entry)) ⌝ ∗ ⌜ Wrote (now (out .entry)) at (inputLines (now (inputs .entry))) r (now (out .exit)) ⌝ }
+    ensures { λ r. ⌜ r ≤ at + 27 * length (now (inputs .entry)) ⌝ }
+    ensures { λ r. ⌜ Wrote (now (out .entry)) at (inputLines (now (inputs .entry))) r (now (out .exit)) ⌝ }
 {
     let mut next = at;
     let mut i = 0;
@@ -46,7 +49,9 @@ fn put_inputs(out: &mut [u8], at: usize, inputs: &[u64]) -> usize
 // An answer has at most 104 bytes on its line, an input 27, the used count 26.
 pub fn write_lines(answer: Answer, inputs: &[u64], out: &mut [u8]) -> usize
     requires { ⌜ 130 + 27 * length (now inputs) ≤ length (now out) ⌝ }
-    ensures { λ r. ⌜ r ≡ length (lines answer (now (inputs .entry))) ⌝ ∗ ⌜ now (out .exit) ≡ written (lines answer (now (inputs .entry))) (now (out .entry)) ⌝ ∗ ⌜ r ≤ length (now (out .entry)) ⌝ }
+    ensures { λ r. ⌜ r ≡ length (lines answer (now (inputs .entry))) ⌝ }
+    ensures { λ _. ⌜ now (out .exit) ≡ written (lines answer (now (inputs .entry))) (now (out .entry)) ⌝ }
+    ensures { λ r. ⌜ r ≤ length (now (out .entry)) ⌝ }
 {
     let first = put_answer(out, answer);
     let last = put_inputs(out, first, inputs);

@@ -54,7 +54,8 @@ fn report_answer(
     out: &mut [u8; MOST_PRINTED],
 ) -> usize
     requires { ⌜ Lent store (now words) ⌝ }
-    ensures { λ r. ⌜ ((marks : List ℕ) → length marks ≡ store .rows * store .marks → Printed (answerLines answer (rowsOf store (now (words .entry)) marks)) (now (out .entry)) (now (out .exit)) r) ⌝ }
+    ensures { λ r. ⌜ ((marks : List ℕ) → length marks ≡ store .rows * store .marks
+        → Printed (answerLines answer (rowsOf store (now (words .entry)) marks)) (now (out .entry)) (now (out .exit)) r) ⌝ }
 {
     let told = told_inputs(answer, store, words);
     let from = told.from;

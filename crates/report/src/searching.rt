@@ -22,7 +22,8 @@ fn search_with(
     marks: &mut [u8],
 ) -> SearchAnswer
     requires { ⌜ Within (length (now sheet)) asked ⌝ }
-    ensures { λ r. ⌜ left (now (words .exit)) (now (marks .exit)) r ≡ searchEntry (asked .options) (asked .log) (imageOf (now (sheet .entry)) asked) (now (tape .entry)) (now (words .entry)) (now (marks .entry)) ⌝ }
+    ensures { λ r. ⌜ left (now (words .exit)) (now (marks .exit)) r
+        ≡ searchEntry (asked .options) (asked .log) (imageOf (now (sheet .entry)) asked) (now (tape .entry)) (now (words .entry)) (now (marks .entry)) ⌝ }
 {
     let options = asked.options;
     let code = asked.code;
@@ -51,7 +52,9 @@ pub(crate) fn search_sheet(
     marks: &mut [u8],
 ) -> SearchAnswer
     requires { ⌜ parsed benchLimits (now sheet) ≡ Accepted asked ⌝ }
-    ensures { λ r. ⌜ left (now (words .exit)) (now (marks .exit)) r ≡ searchEntry (asked .options) (asked .log) (imageOf (now (sheet .entry)) asked) (tapeOf (now (sheet .entry)) asked) (now (words .entry)) (now (marks .entry)) ⌝ }
+    ensures { λ r. ⌜ left (now (words .exit)) (now (marks .exit)) r
+        ≡ searchEntry (asked .options) (asked .log) (imageOf (now (sheet .entry)) asked) (tapeOf (now (sheet .entry)) asked)
+        (now (words .entry)) (now (marks .entry)) ⌝ }
 {
     let mut tape = [0; MOST_TAPE];
     let from = asked.tape_offset;

@@ -95,7 +95,8 @@ pub extern "C" fn tavvinur_new_executor(
     ensures { λ r. ⌜ r ≡ checkedNumber (creationChecked memory log (image «code_address» (now (code .entry)) «data_address» (now («data» .entry)))
         (row (now (words .entry)) (now (marks .entry)))) ⌝ }
     ensures { λ _. ⌜ row (now (words .exit)) (now (marks .exit))
-        ≡ creationLeft memory log (image «code_address» (now (code .entry)) «data_address» (now («data» .entry))) (row (now (words .entry)) (now (marks .entry))) ⌝ }
+        ≡ creationLeft memory log (image «code_address» (now (code .entry)) «data_address» (now («data» .entry)))
+        (row (now (words .entry)) (now (marks .entry))) ⌝ }
 {
     let checked = executor::new_executor(
         words,
