@@ -18,7 +18,8 @@ pub fn counter(
     byte: u64,
 ) -> u64
     requires { ⌜ Fit store (now words) (now marks) ⌝ ∗ ⌜ length (now flags) ≡ store .rows ⌝ ∗ ⌜ byte < 256 ⌝ }
-    ensures { λ r. ⌜ r ≡ counterIn (taking (now (flags .entry)) (rowsOf store (now (words .entry)) (now (marks .entry)))) (addressOf cell byte) ⌝ ∗ ⌜ r ≤ 32768 ⌝ }
+    ensures { λ r. ⌜ r ≡ counterIn (taking (now (flags .entry)) (rowsOf store (now (words .entry)) (now (marks .entry)))) (addressOf cell byte) ⌝
+        ∗ ⌜ r ≤ 32768 ⌝ }
 {
     let mut n = 0;
     let mut r = 0;

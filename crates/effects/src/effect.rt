@@ -41,7 +41,8 @@ pub enum Effect {
 
 fn execute_rtype(words: &[u64], marks: &[u8], op: Op, t: RType, pc: u64) -> Effect
     requires { ⌜ RegisterFile (now words) (now marks) ⌝ ∗ ⌜ RRegisters t ⌝ }
-    ensures { λ r. ⌜ r ≡ binaryOp op (t .rd) pc (valueAt (now (words .entry)) (now (marks .entry)) (t .rs1)) (valueAt (now (words .entry)) (now (marks .entry)) (t .rs2)) ⌝ }
+    ensures { λ r. ⌜ r ≡ binaryOp op (t .rd) pc (valueAt (now (words .entry)) (now (marks .entry)) (t .rs1))
+        (valueAt (now (words .entry)) (now (marks .entry)) (t .rs2)) ⌝ }
 {
     let a = value_at(words, marks, t.rs1);
     let b = value_at(words, marks, t.rs2);
@@ -50,7 +51,8 @@ fn execute_rtype(words: &[u64], marks: &[u8], op: Op, t: RType, pc: u64) -> Effe
 
 fn execute_divu_remu(words: &[u64], marks: &[u8], op: Op, t: RType, pc: u64) -> Effect
     requires { ⌜ RegisterFile (now words) (now marks) ⌝ ∗ ⌜ RRegisters t ⌝ }
-    ensures { λ r. ⌜ r ≡ divuRemu op (t .rd) pc (valueAt (now (words .entry)) (now (marks .entry)) (t .rs1)) (valueAt (now (words .entry)) (now (marks .entry)) (t .rs2)) ⌝ }
+    ensures { λ r. ⌜ r ≡ divuRemu op (t .rd) pc (valueAt (now (words .entry)) (now (marks .entry)) (t .rs1))
+        (valueAt (now (words .entry)) (now (marks .entry)) (t .rs2)) ⌝ }
 {
     let a = value_at(words, marks, t.rs1);
     let b = value_at(words, marks, t.rs2);
@@ -67,7 +69,8 @@ fn execute_itype(words: &[u64], marks: &[u8], op: Op, t: IType, pc: u64) -> Effe
 
 fn execute_beq(words: &[u64], marks: &[u8], t: BType, pc: u64) -> Effect
     requires { ⌜ RegisterFile (now words) (now marks) ⌝ ∗ ⌜ BRegisters t ⌝ }
-    ensures { λ r. ⌜ r ≡ beqOf (immB (t .word)) pc (valueAt (now (words .entry)) (now (marks .entry)) (t .rs1)) (valueAt (now (words .entry)) (now (marks .entry)) (t .rs2)) ⌝ }
+    ensures { λ r. ⌜ r ≡ beqOf (immB (t .word)) pc (valueAt (now (words .entry)) (now (marks .entry)) (t .rs1))
+        (valueAt (now (words .entry)) (now (marks .entry)) (t .rs2)) ⌝ }
 {
     let a = value_at(words, marks, t.rs1);
     let b = value_at(words, marks, t.rs2);
@@ -92,7 +95,8 @@ fn execute_ld(words: &[u64], marks: &[u8], t: IType, pc: u64, memory: u64) -> Ef
 
 fn execute_sd(words: &[u64], marks: &[u8], t: SType, pc: u64, memory: u64) -> Effect
     requires { ⌜ RegisterFile (now words) (now marks) ⌝ ∗ ⌜ SRegisters t ⌝ }
-    ensures { λ r. ⌜ r ≡ sdOf (t .imm) pc (valueAt (now (words .entry)) (now (marks .entry)) (t .rs1)) (valueAt (now (words .entry)) (now (marks .entry)) (t .rs2)) memory ⌝ }
+    ensures { λ r. ⌜ r ≡ sdOf (t .imm) pc (valueAt (now (words .entry)) (now (marks .entry)) (t .rs1))
+        (valueAt (now (words .entry)) (now (marks .entry)) (t .rs2)) memory ⌝ }
 {
     let base = value_at(words, marks, t.rs1);
     let value = value_at(words, marks, t.rs2);

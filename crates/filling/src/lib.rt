@@ -6,7 +6,7 @@ ghost use Prim.Native.Nat.{_+_, _-_, _≤_, _<_};
 ghost use lib.Dec.{T, eqb};
 ghost use lib.ListN.{length, set, take, drop, replicate};
 ghost use Rattle.checks.specs.Refusals.{isCopyRatio};
-ghost use Rattle.loader.specs.Loading.{segment, program, programmed, newExecutor, Fits};
+ghost use Rattle.loader.specs.Loading.{segment, image, programmed, newExecutor, Fits};
 ghost use Rattle.store.specs.Store.{rowsOf, rowAt, Fit};
 ghost use Rattle.rounds.specs.Calls.{call};
 ghost use Rattle.rounds.specs.Copies.{toCopy};
@@ -67,8 +67,12 @@ fn copy_executors(
     tape: &[u64],
     used: usize,
 )
-    requires { ⌜ Holding store (now words) (now marks) kept ⌝ ∗ ⌜ kept + count ≤ store .rows ⌝ ∗ ⌜ (0 < count → 0 < kept) ⌝ ∗ ⌜ count ≤ length (now tape) - used ⌝ }
-    ensures { λ _. ⌜ rowsOf store (now (words .exit)) (now (marks .exit)) ≡ stored store (withCopies (take kept (rowsOf store (now (words .entry)) (now (marks .entry)))) (take count (drop used (now (tape .entry))))) ⌝ }
+    requires { ⌜ Holding store (now words) (now marks) kept ⌝
+        ∗ ⌜ kept + count ≤ store .rows ⌝
+        ∗ ⌜ (0 < count → 0 < kept) ⌝
+        ∗ ⌜ count ≤ length (now tape) - used ⌝ }
+    ensures { λ _. ⌜ rowsOf store (now (words .exit)) (now (marks .exit))
+        ≡ stored store (withCopies (take kept (rowsOf store (now (words .entry)) (now (marks .entry)))) (take count (drop used (now (tape .entry))))) ⌝ }
 {
     let mut i = 0;
     while i < count {
@@ -94,8 +98,14 @@ fn load_row(
     data_address: u64,
     data: &[u8],
 )
-    requires { ⌜ Fit store (now words) (now marks) ⌝ ∗ ⌜ r < store .rows ⌝ ∗ ⌜ Fits (store .marks - 32) (segment «code_address» (now code)) ⌝ ∗ ⌜ Fits (store .marks - 32) (segment «data_address» (now «data»)) ⌝ }
-    ensures { λ _. ⌜ rowsOf store (now (words .exit)) (now (marks .exit)) ≡ set (rowsOf store (now (words .entry)) (now (marks .entry))) r (programmed (program (segment «code_address» (now (code .entry))) (segment «data_address» (now («data» .entry)))) (rowAt (rowsOf store (now (words .entry)) (now (marks .entry))) r)) ⌝ }
+    requires { ⌜ Fit store (now words) (now marks) ⌝
+        ∗ ⌜ r < store .rows ⌝
+        ∗ ⌜ Fits (store .marks - 32) (segment «code_address» (now code)) ⌝
+        ∗ ⌜ Fits (store .marks - 32) (segment «data_address» (now «data»)) ⌝ }
+    ensures { λ _. ⌜ rowsOf store (now (words .exit)) (now (marks .exit))
+        ≡ set (rowsOf store (now (words .entry)) (now (marks .entry))) r
+        (programmed (image «code_address» (now (code .entry)) «data_address» (now («data» .entry)))
+        (rowAt (rowsOf store (now (words .entry)) (now (marks .entry))) r)) ⌝ }
 {
     let from_word = r * store.words;
     let from_mark = r * store.marks;
@@ -120,8 +130,12 @@ fn new_executors(
     data_address: u64,
     data: &[u8],
 )
-    requires { ⌜ Holding store (now words) (now marks) from ⌝ ∗ ⌜ Fits (store .marks - 32) (segment «code_address» (now code)) ⌝ ∗ ⌜ Fits (store .marks - 32) (segment «data_address» (now «data»)) ⌝ }
-    ensures { λ _. ⌜ rowsOf store (now (words .exit)) (now (marks .exit)) ≡ take from (rowsOf store (now (words .entry)) (now (marks .entry))) ++ replicate (store .rows - from) (newExecutor (program (segment «code_address» (now (code .entry))) (segment «data_address» (now («data» .entry)))) (store .words) (store .marks)) ⌝ }
+    requires { ⌜ Holding store (now words) (now marks) from ⌝
+        ∗ ⌜ Fits (store .marks - 32) (segment «code_address» (now code)) ⌝
+        ∗ ⌜ Fits (store .marks - 32) (segment «data_address» (now «data»)) ⌝ }
+    ensures { λ _. ⌜ rowsOf store (now (words .exit)) (now (marks .exit))
+        ≡ take from (rowsOf store (now (words .entry)) (now (marks .entry))) ++ replicate (store .rows - from)
+        (newExecutor (image «code_address» (now (code .entry)) «data_address» (now («data» .entry))) (store .words) (store .marks)) ⌝ }
 {
     let mut r = from;
     while r < store.rows {
@@ -153,8 +167,15 @@ pub fn create_missing_executors(
     tape: &[u64],
     used: usize,
 ) -> Filling
-    requires { ⌜ Holding store (now words) (now marks) kept ⌝ ∗ ⌜ T (isCopyRatio (options .«copy_init_ratio»)) ⌝ ∗ ⌜ Fits (store .marks - 32) (segment «code_address» (now code)) ⌝ ∗ ⌜ Fits (store .marks - 32) (segment «data_address» (now «data»)) ⌝ }
-    ensures { λ r. ⌜ r ≡ filling (call options store (program (segment «code_address» (now (code .entry))) (segment «data_address» (now («data» .entry)))) (now (tape .entry))) (startOf store (now (words .entry)) (now (marks .entry)) kept used) ⌝ ∗ ⌜ rowsOf store (now (words .exit)) (now (marks .exit)) ≡ afterFilling (call options store (program (segment «code_address» (now (code .entry))) (segment «data_address» (now («data» .entry)))) (now (tape .entry))) (startOf store (now (words .entry)) (now (marks .entry)) kept used) ⌝ }
+    requires { ⌜ Holding store (now words) (now marks) kept ⌝
+        ∗ ⌜ T (isCopyRatio (options .«copy_init_ratio»)) ⌝
+        ∗ ⌜ Fits (store .marks - 32) (segment «code_address» (now code)) ⌝
+        ∗ ⌜ Fits (store .marks - 32) (segment «data_address» (now «data»)) ⌝ }
+    ensures { λ r. ⌜ r ≡ filling (call options store (image «code_address» (now (code .entry)) «data_address» (now («data» .entry))) (now (tape .entry)))
+        (startOf store (now (words .entry)) (now (marks .entry)) kept used) ⌝
+        ∗ ⌜ rowsOf store (now (words .exit)) (now (marks .exit))
+        ≡ afterFilling (call options store (image «code_address» (now (code .entry)) «data_address» (now («data» .entry))) (now (tape .entry)))
+        (startOf store (now (words .entry)) (now (marks .entry)) kept used) ⌝ }
 {
     let count = count_copies(store.rows, kept, options.copy_init_ratio);
     if words_left(tape, used) < count {

@@ -3,7 +3,7 @@ ghost use mathlib.Core.Path.{_≡_};
 ghost use Prim.Native.Nat.{_+_, _-_, _/_, _<_, _≤_, _^_};
 ghost use lib.ListN.{length};
 ghost use Rattle.rows.specs.Rows.{row, Shape};
-ghost use Rattle.loader.specs.Loading.{segment, program, wordAt, loadedFrom, loaded, started, programmed, newExecutor, Fits};
+ghost use Rattle.loader.specs.Loading.{segment, image, wordAt, loadedFrom, loaded, started, programmed, newExecutor, Fits};
 use effects::value::Value;
 use rows::clear::clear_marks;
 use rows::clear::clear_words;
@@ -39,7 +39,8 @@ pub fn word_at(bytes: &[u8], i: usize) -> u64
 
 fn load_segment(words: &mut [u64], marks: &mut [u8], address: u64, bytes: &[u8])
     requires { ⌜ Shape (now words) (now marks) ⌝ ∗ ⌜ Fits (length (now marks) - 32) (segment address (now bytes)) ⌝ }
-    ensures { λ _. ⌜ row (now (words .exit)) (now (marks .exit)) ≡ loaded (segment address (now (bytes .entry))) (row (now (words .entry)) (now (marks .entry))) ⌝ }
+    ensures { λ _. ⌜ row (now (words .exit)) (now (marks .exit))
+        ≡ loaded (segment address (now (bytes .entry))) (row (now (words .entry)) (now (marks .entry))) ⌝ }
 {
     let n = bytes.len() / 8;
     let m = (address / 8) as usize;
@@ -74,8 +75,12 @@ pub fn load_program(
     data_address: u64,
     data: &[u8],
 )
-    requires { ⌜ Shape (now words) (now marks) ⌝ ∗ ⌜ 32 < length (now marks) ⌝ ∗ ⌜ Fits (length (now marks) - 32) (segment «code_address» (now code)) ⌝ ∗ ⌜ Fits (length (now marks) - 32) (segment «data_address» (now «data»)) ⌝ }
-    ensures { λ _. ⌜ row (now (words .exit)) (now (marks .exit)) ≡ programmed (program (segment «code_address» (now (code .entry))) (segment «data_address» (now («data» .entry)))) (row (now (words .entry)) (now (marks .entry))) ⌝ }
+    requires { ⌜ Shape (now words) (now marks) ⌝
+        ∗ ⌜ 32 < length (now marks) ⌝
+        ∗ ⌜ Fits (length (now marks) - 32) (segment «code_address» (now code)) ⌝
+        ∗ ⌜ Fits (length (now marks) - 32) (segment «data_address» (now «data»)) ⌝ }
+    ensures { λ _. ⌜ row (now (words .exit)) (now (marks .exit))
+        ≡ programmed (image «code_address» (now (code .entry)) «data_address» (now («data» .entry))) (row (now (words .entry)) (now (marks .entry))) ⌝ }
 {
     start(words, marks);
     load_segment(words, marks, code_address, code);
@@ -93,8 +98,13 @@ pub fn new_executor(
     data_address: u64,
     data: &[u8],
 )
-    requires { ⌜ Shape (now words) (now marks) ⌝ ∗ ⌜ 32 < length (now marks) ⌝ ∗ ⌜ Fits (length (now marks) - 32) (segment «code_address» (now code)) ⌝ ∗ ⌜ Fits (length (now marks) - 32) (segment «data_address» (now «data»)) ⌝ }
-    ensures { λ _. ⌜ row (now (words .exit)) (now (marks .exit)) ≡ newExecutor (program (segment «code_address» (now (code .entry))) (segment «data_address» (now («data» .entry)))) (length (now (words .entry))) (length (now (marks .entry))) ⌝ }
+    requires { ⌜ Shape (now words) (now marks) ⌝
+        ∗ ⌜ 32 < length (now marks) ⌝
+        ∗ ⌜ Fits (length (now marks) - 32) (segment «code_address» (now code)) ⌝
+        ∗ ⌜ Fits (length (now marks) - 32) (segment «data_address» (now «data»)) ⌝ }
+    ensures { λ _. ⌜ row (now (words .exit)) (now (marks .exit))
+        ≡ newExecutor (image «code_address» (now (code .entry)) «data_address» (now («data» .entry))) (length (now (words .entry)))
+        (length (now (marks .entry))) ⌝ }
 {
     clear_words(words);
     clear_marks(marks);

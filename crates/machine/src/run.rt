@@ -50,7 +50,9 @@ const ECALL: u32 = 0x73;
 // Runs until depth is at the limit.
 fn run_to(words: &mut [u64], marks: &mut [u8], limit: u64, tape: &[u64], used: usize) -> Ran
     requires { ⌜ Shape (now words) (now marks) ⌝ }
-    ensures { λ r. ⌜ finishedAs (now (words .exit)) (now (marks .exit)) r ≡ runFor (limit - depthOf (row (now (words .entry)) (now (marks .entry)))) (now (tape .entry)) used (row (now (words .entry)) (now (marks .entry))) ⌝ }
+    ensures { λ r. ⌜ finishedAs (now (words .exit)) (now (marks .exit)) r
+        ≡ runFor (limit - depthOf (row (now (words .entry)) (now (marks .entry)))) (now (tape .entry)) used
+        (row (now (words .entry)) (now (marks .entry))) ⌝ }
 {
     let ecall = Instruction::Ecall;
     let mut known = [ECALL; KNOWN];
@@ -89,7 +91,8 @@ fn run_to(words: &mut [u64], marks: &mut [u8], limit: u64, tape: &[u64], used: u
 // Runs at most `step` instructions more.
 pub fn run(words: &mut [u64], marks: &mut [u8], step: u32, tape: &[u64], used: usize) -> Ran
     requires { ⌜ Shape (now words) (now marks) ⌝ ∗ ⌜ limitOf (row (now words) (now marks)) + step < 2 ^ 64 ⌝ }
-    ensures { λ r. ⌜ finishedAs (now (words .exit)) (now (marks .exit)) r ≡ runOf step (now (tape .entry)) used (row (now (words .entry)) (now (marks .entry))) ⌝ }
+    ensures { λ r. ⌜ finishedAs (now (words .exit)) (now (marks .exit)) r
+        ≡ runOf step (now (tape .entry)) used (row (now (words .entry)) (now (marks .entry))) ⌝ }
 {
     let limit = words[LIMIT] + step as u64;
     words[LIMIT] = limit;

@@ -62,7 +62,8 @@ fn fetch(words: &[u64], marks: &[u8]) -> Fetched
 
 fn follow(words: &mut [u64], marks: &mut [u8], next: Next, tape: &[u64], used: usize) -> Stepped
     requires { ⌜ Shape (now words) (now marks) ⌝ }
-    ensures { λ r. ⌜ called (now (words .exit)) (now (marks .exit)) r ≡ followed next (now (tape .entry)) used (row (now (words .entry)) (now (marks .entry))) ⌝ }
+    ensures { λ r. ⌜ called (now (words .exit)) (now (marks .exit)) r
+        ≡ followed next (now (tape .entry)) used (row (now (words .entry)) (now (marks .entry))) ⌝ }
 {
     match next {
         Next::Instruction => Stepped {
@@ -80,7 +81,8 @@ fn follow(words: &mut [u64], marks: &mut [u8], next: Next, tape: &[u64], used: u
 // Fetches the next instruction, which counts as executed.
 pub(crate) fn fetch_next(words: &mut [u64], marks: &[u8]) -> Fetched
     requires { ⌜ Shape (now words) (now marks) ⌝ ∗ ⌜ depthOf (row (now words) (now marks)) + 1 < 2 ^ 64 ⌝ }
-    ensures { λ r. ⌜ r ≡ fetched (deeper (row (now (words .entry)) (now (marks .entry)))) ⌝ ∗ ⌜ row (now (words .exit)) (now (marks .entry)) ≡ deeper (row (now (words .entry)) (now (marks .entry))) ⌝ }
+    ensures { λ r. ⌜ r ≡ fetched (deeper (row (now (words .entry)) (now (marks .entry)))) ⌝
+        ∗ ⌜ row (now (words .exit)) (now (marks .entry)) ≡ deeper (row (now (words .entry)) (now (marks .entry))) ⌝ }
 {
     words[DEPTH] = words[DEPTH] + 1;
     fetch(words, marks)
@@ -118,7 +120,8 @@ pub(crate) fn advance(
     used: usize,
 ) -> Moved
     requires { ⌜ Shape (now words) (now marks) ⌝ ∗ ⌜ Registers instruction ⌝ }
-    ensures { λ r. ⌜ reached (now (words .exit)) (now (marks .exit)) r ≡ whole (executed (Valid instruction) (now (tape .entry)) used (row (now (words .entry)) (now (marks .entry)))) ⌝ }
+    ensures { λ r. ⌜ reached (now (words .exit)) (now (marks .exit)) r
+        ≡ whole (executed (Valid instruction) (now (tape .entry)) used (row (now (words .entry)) (now (marks .entry)))) ⌝ }
 {
     let next = execute(words, marks, instruction);
     let stepped = follow(words, marks, next, tape, used);

@@ -29,7 +29,8 @@ fn tally_word(
     x: u64,
 ) -> Tally
     requires { ⌜ Fit store (now words) (now marks) ⌝ ∗ ⌜ length (now flags) ≡ store .rows ⌝ ∗ ⌜ place ≤ store .marks ⌝ ∗ ⌜ Within (8 * place) «so_far» ⌝ }
-    ensures { λ t. ⌜ Taken (taking (now (flags .entry)) (rowsOf store (now (words .entry)) (now (marks .entry)))) «so_far» (byteAddresses place x 8) t ⌝ ∗ ⌜ Within (8 * (place + 1)) t ⌝ }
+    ensures { λ t. ⌜ Taken (taking (now (flags .entry)) (rowsOf store (now (words .entry)) (now (marks .entry)))) «so_far» (byteAddresses place x 8) t ⌝
+        ∗ ⌜ Within (8 * (place + 1)) t ⌝ }
 {
     let base = base_of(place);
     let mut t = so_far;
@@ -60,7 +61,9 @@ fn value_at(words: &[u64], marks: &[u8], store: Layout, r: usize, place: usize) 
 // The counters of row r among the rows that take part, all of them in list order.
 fn tally_row(words: &[u64], marks: &[u8], store: Layout, flags: &[bool], r: usize) -> Tally
     requires { ⌜ Fit store (now words) (now marks) ⌝ ∗ ⌜ length (now flags) ≡ store .rows ⌝ ∗ ⌜ r < store .rows ⌝ }
-    ensures { λ t. ⌜ t ≡ tally (countersOf (taking (now (flags .entry)) (rowsOf store (now (words .entry)) (now (marks .entry)))) (rowAt (rowsOf store (now (words .entry)) (now (marks .entry))) r)) ⌝ ∗ ⌜ Within mostCounters t ⌝ }
+    ensures { λ t. ⌜ t ≡ tally (countersOf (taking (now (flags .entry)) (rowsOf store (now (words .entry)) (now (marks .entry))))
+        (rowAt (rowsOf store (now (words .entry)) (now (marks .entry))) r)) ⌝
+        ∗ ⌜ Within mostCounters t ⌝ }
 {
     let mut t = Tally::new();
     let mut place = 0;
@@ -84,7 +87,8 @@ fn score_row(
     r: usize,
 ) -> f64
     requires { ⌜ Fit store (now words) (now marks) ⌝ ∗ ⌜ length (now flags) ≡ store .rows ⌝ ∗ ⌜ r < store .rows ⌝ }
-    ensures { λ s. ⌜ s ≡ score mean (taking (now (flags .entry)) (rowsOf store (now (words .entry)) (now (marks .entry)))) (rowAt (rowsOf store (now (words .entry)) (now (marks .entry))) r) ⌝ }
+    ensures { λ s. ⌜ s ≡ score mean (taking (now (flags .entry)) (rowsOf store (now (words .entry)) (now (marks .entry))))
+        (rowAt (rowsOf store (now (words .entry)) (now (marks .entry))) r) ⌝ }
 {
     let t = tally_row(words, marks, store, flags, r);
     t.mean(mean)

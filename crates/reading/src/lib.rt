@@ -41,7 +41,9 @@ fn draw(words: &[u64], marks: &[u8], tape: &[u64], used: usize) -> Drawn
 
 // Logs a word, and stores one in memory word m.
 fn record(words: &mut [u64], marks: &mut [u8], m: usize, logged: u64, stored: u64)
-    requires { ⌜ Shape (now words) (now marks) ⌝ ∗ ⌜ m < length (now marks) - 32 ⌝ ∗ ⌜ logCount (row (now words) (now marks)) < logRoom (row (now words) (now marks)) ⌝ }
+    requires { ⌜ Shape (now words) (now marks) ⌝
+        ∗ ⌜ m < length (now marks) - 32 ⌝
+        ∗ ⌜ logCount (row (now words) (now marks)) < logRoom (row (now words) (now marks)) ⌝ }
     ensures { λ _. ⌜ row (now (words .exit)) (now (marks .exit)) ≡ recorded m logged stored (row (now (words .entry)) (now (marks .entry))) ⌝ }
 {
     let count = words[LOG_COUNT] as usize;
@@ -62,7 +64,9 @@ fn refuse(error: ExecutorError, used: usize) -> Moved
 
 fn read_word(words: &mut [u64], marks: &mut [u8], tape: &[u64], m: usize, used: usize) -> Moved
     requires { ⌜ Shape (now words) (now marks) ⌝ ∗ ⌜ m < length (now marks) - 32 ⌝ }
-    ensures { λ r. ⌜ reached (now (words .exit)) (now (marks .exit)) r ≡ fullWord (drawnOf (now (tape .entry)) used (row (now (words .entry)) (now (marks .entry)))) m used (row (now (words .entry)) (now (marks .entry))) ⌝ }
+    ensures { λ r. ⌜ reached (now (words .exit)) (now (marks .exit)) r
+        ≡ fullWord (drawnOf (now (tape .entry)) used (row (now (words .entry)) (now (marks .entry)))) m used
+        (row (now (words .entry)) (now (marks .entry))) ⌝ }
 {
     match draw(words, marks, tape, used) {
         Drawn::Word(x) => {
@@ -85,7 +89,8 @@ fn read_words(
     used: usize,
 ) -> Moved
     requires { ⌜ Shape (now words) (now marks) ⌝ ∗ ⌜ m + n ≤ length (now marks) - 32 ⌝ }
-    ensures { λ r. ⌜ reached (now (words .exit)) (now (marks .exit)) r ≡ fullWords n (now (tape .entry)) m used (row (now (words .entry)) (now (marks .entry))) ⌝ }
+    ensures { λ r. ⌜ reached (now (words .exit)) (now (marks .exit)) r
+        ≡ fullWords n (now (tape .entry)) m used (row (now (words .entry)) (now (marks .entry))) ⌝ }
 {
     let mut at = used;
     let mut k = 0;
@@ -137,7 +142,8 @@ fn read_tail(
     used: usize,
 ) -> Moved
     requires { ⌜ Shape (now words) (now marks) ⌝ ∗ ⌜ m < length (now marks) - 32 ⌝ ∗ ⌜ 0 < k ⌝ ∗ ⌜ k < 8 ⌝ }
-    ensures { λ r. ⌜ reached (now (words .exit)) (now (marks .exit)) r ≡ tailIn word (now (tape .entry)) (2 ^ (8 * k)) m used (row (now (words .entry)) (now (marks .entry))) ⌝ }
+    ensures { λ r. ⌜ reached (now (words .exit)) (now (marks .exit)) r
+        ≡ tailIn word (now (tape .entry)) (2 ^ (8 * k)) m used (row (now (words .entry)) (now (marks .entry))) ⌝ }
 {
     let Value::Concrete(before) = word else {
         return Moved {
@@ -168,7 +174,8 @@ fn read_rest(
     used: usize,
 ) -> Moved
     requires { ⌜ Shape (now words) (now marks) ⌝ ∗ ⌜ m + (size + 7) / 8 ≤ length (now marks) - 32 ⌝ }
-    ensures { λ r. ⌜ reached (now (words .exit)) (now (marks .exit)) r ≡ restOf size (now (tape .entry)) m used (row (now (words .entry)) (now (marks .entry))) ⌝ }
+    ensures { λ r. ⌜ reached (now (words .exit)) (now (marks .exit)) r
+        ≡ restOf size (now (tape .entry)) m used (row (now (words .entry)) (now (marks .entry))) ⌝ }
 {
     let k = size % 8;
     if k == 0 {
@@ -192,7 +199,8 @@ pub fn read_bytes(
     used: usize,
 ) -> Moved
     requires { ⌜ Shape (now words) (now marks) ⌝ ∗ ⌜ m + (size + 7) / 8 ≤ length (now marks) - 32 ⌝ }
-    ensures { λ r. ⌜ reached (now (words .exit)) (now (marks .exit)) r ≡ bytesOf size (now (tape .entry)) m used (row (now (words .entry)) (now (marks .entry))) ⌝ }
+    ensures { λ r. ⌜ reached (now (words .exit)) (now (marks .exit)) r
+        ≡ bytesOf size (now (tape .entry)) m used (row (now (words .entry)) (now (marks .entry))) ⌝ }
 {
     let moved = read_words(words, marks, tape, (size / 8) as usize, m, used);
     let at = moved.used;

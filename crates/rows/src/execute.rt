@@ -55,7 +55,9 @@ fn apply(words: &mut [u64], marks: &mut [u8], effect: Effect) -> Next
 
 pub fn execute(words: &mut [u64], marks: &mut [u8], instruction: Instruction) -> Next
     requires { ⌜ Shape (now words) (now marks) ⌝ ∗ ⌜ Registers instruction ⌝ }
-    ensures { λ r. ⌜ r ≡ nextOf (effectIn instruction (row (now (words .entry)) (now (marks .entry)))) ⌝ ∗ ⌜ row (now (words .exit)) (now (marks .exit)) ≡ applied (effectIn instruction (row (now (words .entry)) (now (marks .entry)))) (row (now (words .entry)) (now (marks .entry))) ⌝ }
+    ensures { λ r. ⌜ r ≡ nextOf (effectIn instruction (row (now (words .entry)) (now (marks .entry)))) ⌝
+        ∗ ⌜ row (now (words .exit)) (now (marks .exit))
+        ≡ applied (effectIn instruction (row (now (words .entry)) (now (marks .entry)))) (row (now (words .entry)) (now (marks .entry))) ⌝ }
 {
     let pc = words[PC];
     let memory = (marks.len() - REGISTERS) as u64;

@@ -106,8 +106,17 @@ fn run_row(
     used: usize,
     r: usize,
 ) -> Ran
-    requires { ⌜ Fit store (now words) (now marks) ⌝ ∗ ⌜ length (now running) ≡ store .rows ⌝ ∗ ⌜ r < store .rows ⌝ ∗ ⌜ limitOf (rowAt (rowsOf store (now words) (now marks)) r) + step < 2 ^ 64 ⌝ }
-    ensures { λ ran. ⌜ ran ≡ runOf step (now (tape .entry)) used (rowAt (rowsOf store (now (words .entry)) (now (marks .entry))) r) .ran ⌝ ∗ ⌜ rowsOf store (now (words .exit)) (now (marks .exit)) ≡ set (rowsOf store (now (words .entry)) (now (marks .entry))) r (rowAfter (runOf step (now (tape .entry)) used (rowAt (rowsOf store (now (words .entry)) (now (marks .entry))) r))) ⌝ ∗ ⌜ now (running .exit) ≡ set (now (running .entry)) r (runningFlag (runOf step (now (tape .entry)) used (rowAt (rowsOf store (now (words .entry)) (now (marks .entry))) r))) ⌝ }
+    requires { ⌜ Fit store (now words) (now marks) ⌝
+        ∗ ⌜ length (now running) ≡ store .rows ⌝
+        ∗ ⌜ r < store .rows ⌝
+        ∗ ⌜ limitOf (rowAt (rowsOf store (now words) (now marks)) r) + step < 2 ^ 64 ⌝ }
+    ensures { λ ran. ⌜ ran ≡ runOf step (now (tape .entry)) used (rowAt (rowsOf store (now (words .entry)) (now (marks .entry))) r) .ran ⌝
+        ∗ ⌜ rowsOf store (now (words .exit)) (now (marks .exit))
+        ≡ set (rowsOf store (now (words .entry)) (now (marks .entry))) r
+        (rowAfter (runOf step (now (tape .entry)) used (rowAt (rowsOf store (now (words .entry)) (now (marks .entry))) r))) ⌝
+        ∗ ⌜ now (running .exit)
+        ≡ set (now (running .entry)) r (runningFlag (runOf step (now (tape .entry)) used
+        (rowAt (rowsOf store (now (words .entry)) (now (marks .entry))) r))) ⌝ }
 {
     let from_word = r * store.words;
     let from_mark = r * store.marks;
@@ -134,7 +143,10 @@ pub fn run_all(
     used: usize,
 ) -> AllRan
     requires { ⌜ Fit store (now words) (now marks) ⌝ ∗ ⌜ length (now running) ≡ store .rows ⌝ ∗ ⌜ LimitsAllow step (rowsOf store (now words) (now marks)) ⌝ }
-    ensures { λ r. ⌜ r ≡ allRan used (runAll step (now (tape .entry)) used (rowsOf store (now (words .entry)) (now (marks .entry)))) ⌝ ∗ ⌜ rowsOf store (now (words .exit)) (now (marks .exit)) ≡ map rowAfter (runAll step (now (tape .entry)) used (rowsOf store (now (words .entry)) (now (marks .entry)))) ⌝ ∗ ⌜ now (running .exit) ≡ map runningFlag (runAll step (now (tape .entry)) used (rowsOf store (now (words .entry)) (now (marks .entry)))) ⌝ }
+    ensures { λ r. ⌜ r ≡ allRan used (runAll step (now (tape .entry)) used (rowsOf store (now (words .entry)) (now (marks .entry)))) ⌝
+        ∗ ⌜ rowsOf store (now (words .exit)) (now (marks .exit))
+        ≡ map rowAfter (runAll step (now (tape .entry)) used (rowsOf store (now (words .entry)) (now (marks .entry)))) ⌝
+        ∗ ⌜ now (running .exit) ≡ map runningFlag (runAll step (now (tape .entry)) used (rowsOf store (now (words .entry)) (now (marks .entry)))) ⌝ }
 {
     let mut finding = Finding::Nothing;
     let mut at = used;

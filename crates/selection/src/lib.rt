@@ -22,7 +22,9 @@ pub fn select_rarest(
     selection: usize,
 ) -> usize
     requires { ⌜ Fit store (now words) (now marks) ⌝ ∗ ⌜ length (now scores) ≡ store .rows ⌝ ∗ ⌜ length (now flags) ≡ store .rows ⌝ }
-    ensures { λ r. ⌜ r ≡ length (keptNumbers selection (now (scores .entry)) (now (flags .entry))) ⌝ ∗ ⌜ rowsOf store (now (words .exit)) (now (marks .exit)) ≡ stored store (keptRows selection (now (scores .entry)) (now (flags .entry)) (rowsOf store (now (words .entry)) (now (marks .entry)))) ⌝ }
+    ensures { λ r. ⌜ r ≡ length (keptNumbers selection (now (scores .entry)) (now (flags .entry))) ⌝
+        ∗ ⌜ rowsOf store (now (words .exit)) (now (marks .exit))
+        ≡ stored store (keptRows selection (now (scores .entry)) (now (flags .entry)) (rowsOf store (now (words .entry)) (now (marks .entry)))) ⌝ }
 {
     let mut order = [0usize; 4096];
     let kept = order::order_of(scores, flags, &mut order, selection);

@@ -66,7 +66,8 @@ fn next_rarest(scores: &[f64], live: &[bool]) -> Lowest
 // The numbers of the rows to keep, in the order in which they are kept. The flag of each is cleared.
 fn find_order(scores: &[f64], live: &mut [bool], order: &mut [usize], selection: usize) -> usize
     requires { ⌜ length (now scores) ≤ length (now live) ⌝ ∗ ⌜ length (now scores) ≤ length (now order) ⌝ }
-    ensures { λ r. ⌜ r ≡ length (keptNumbers selection (now (scores .entry)) (now (live .entry))) ⌝ ∗ ⌜ take r (now (order .exit)) ≡ keptNumbers selection (now (scores .entry)) (now (live .entry)) ⌝ }
+    ensures { λ r. ⌜ r ≡ length (keptNumbers selection (now (scores .entry)) (now (live .entry))) ⌝
+        ∗ ⌜ take r (now (order .exit)) ≡ keptNumbers selection (now (scores .entry)) (now (live .entry)) ⌝ }
 {
     let mut kept = 0;
     while kept < selection {
@@ -105,7 +106,8 @@ pub(crate) fn order_of(
     selection: usize,
 ) -> usize
     requires { ⌜ length (now scores) ≤ length (now flags) ⌝ ∗ ⌜ length (now flags) ≤ 4096 ⌝ ∗ ⌜ length (now scores) ≤ length (now order) ⌝ }
-    ensures { λ r. ⌜ r ≡ length (keptNumbers selection (now (scores .entry)) (now (flags .entry))) ⌝ ∗ ⌜ take r (now (order .exit)) ≡ keptNumbers selection (now (scores .entry)) (now (flags .entry)) ⌝ }
+    ensures { λ r. ⌜ r ≡ length (keptNumbers selection (now (scores .entry)) (now (flags .entry))) ⌝
+        ∗ ⌜ take r (now (order .exit)) ≡ keptNumbers selection (now (scores .entry)) (now (flags .entry)) ⌝ }
 {
     let mut live = [false; 4096];
     copy_flags(flags, &mut live);

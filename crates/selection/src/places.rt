@@ -40,8 +40,11 @@ fn place_all(
     order: &[usize],
     kept: usize,
 )
-    requires { ⌜ Fit store (now words) (now marks) ⌝ ∗ ⌜ Numbers (store .rows) kept (now order) ⌝ ∗ ⌜ (store .rows ≤ length (now at)) × (store .rows ≤ length (now who)) × Own (now at) × Own (now who) ⌝ }
-    ensures { λ _. ⌜ take kept (rowsOf store (now (words .exit)) (now (marks .exit))) ≡ map (rowAt (rowsOf store (now (words .entry)) (now (marks .entry)))) (take kept (now (order .entry))) ⌝ }
+    requires { ⌜ Fit store (now words) (now marks) ⌝
+        ∗ ⌜ Numbers (store .rows) kept (now order) ⌝
+        ∗ ⌜ (store .rows ≤ length (now at)) × (store .rows ≤ length (now who)) × Own (now at) × Own (now who) ⌝ }
+    ensures { λ _. ⌜ take kept (rowsOf store (now (words .exit)) (now (marks .exit)))
+        ≡ map (rowAt (rowsOf store (now (words .entry)) (now (marks .entry)))) (take kept (now (order .entry))) ⌝ }
 {
     let mut i = 0;
     while i < kept {
@@ -56,7 +59,8 @@ fn place_all(
 
 fn place(words: &mut [u64], marks: &mut [u8], store: Layout, order: &[usize], kept: usize)
     requires { ⌜ Fit store (now words) (now marks) ⌝ ∗ ⌜ Numbers (store .rows) kept (now order) ⌝ }
-    ensures { λ _. ⌜ take kept (rowsOf store (now (words .exit)) (now (marks .exit))) ≡ map (rowAt (rowsOf store (now (words .entry)) (now (marks .entry)))) (take kept (now (order .entry))) ⌝ }
+    ensures { λ _. ⌜ take kept (rowsOf store (now (words .exit)) (now (marks .exit)))
+        ≡ map (rowAt (rowsOf store (now (words .entry)) (now (marks .entry)))) (take kept (now (order .entry))) ⌝ }
 {
     let mut at = [0usize; 4096];
     let mut who = [0usize; 4096];
@@ -74,7 +78,8 @@ pub(crate) fn move_kept(
     kept: usize,
 )
     requires { ⌜ Fit store (now words) (now marks) ⌝ ∗ ⌜ Numbers (store .rows) kept (now order) ⌝ }
-    ensures { λ _. ⌜ rowsOf store (now (words .exit)) (now (marks .exit)) ≡ stored store (map (rowAt (rowsOf store (now (words .entry)) (now (marks .entry)))) (take kept (now (order .entry)))) ⌝ }
+    ensures { λ _. ⌜ rowsOf store (now (words .exit)) (now (marks .exit))
+        ≡ stored store (map (rowAt (rowsOf store (now (words .entry)) (now (marks .entry)))) (take kept (now (order .entry)))) ⌝ }
 {
     place(words, marks, store, order, kept);
     store::zero::zero_rows(words, marks, store, kept);

@@ -31,7 +31,8 @@ fn copy_marks(marks: &mut [u8], from: usize, to: usize, count: usize)
 
 pub fn copy_row(words: &mut [u64], marks: &mut [u8], store: Layout, from: usize, to: usize)
     requires { ⌜ Fit store (now words) (now marks) ⌝ ∗ ⌜ from < to ⌝ ∗ ⌜ to < store .rows ⌝ }
-    ensures { λ _. ⌜ rowsOf store (now (words .exit)) (now (marks .exit)) ≡ set (rowsOf store (now (words .entry)) (now (marks .entry))) to (rowAt (rowsOf store (now (words .entry)) (now (marks .entry))) from) ⌝ }
+    ensures { λ _. ⌜ rowsOf store (now (words .exit)) (now (marks .exit))
+        ≡ set (rowsOf store (now (words .entry)) (now (marks .entry))) to (rowAt (rowsOf store (now (words .entry)) (now (marks .entry))) from) ⌝ }
 {
     copy_words(words, from * store.words, to * store.words, store.words);
     copy_marks(marks, from * store.marks, to * store.marks, store.marks);

@@ -21,7 +21,8 @@ fn zero_row(words: &mut [u64], marks: &mut [u8], store: Layout, r: usize)
 // The rows from `from` on become zero.
 pub fn zero_rows(words: &mut [u64], marks: &mut [u8], store: Layout, from: usize)
     requires { ⌜ Fit store (now words) (now marks) ⌝ ∗ ⌜ from ≤ store .rows ⌝ }
-    ensures { λ _. ⌜ rowsOf store (now (words .exit)) (now (marks .exit)) ≡ take from (rowsOf store (now (words .entry)) (now (marks .entry))) ++ replicate (store .rows - from) (zeroRow store) ⌝ }
+    ensures { λ _. ⌜ rowsOf store (now (words .exit)) (now (marks .exit))
+        ≡ take from (rowsOf store (now (words .entry)) (now (marks .entry))) ++ replicate (store .rows - from) (zeroRow store) ⌝ }
 {
     let mut r = from;
     while r < store.rows {

@@ -4,7 +4,7 @@ ghost use Prim.Native.Nat.{_-_};
 ghost use lib.Dec.{T};
 ghost use lib.ListN.{length};
 ghost use Rattle.checks.specs.Refusals.{isCopyRatio};
-ghost use Rattle.loader.specs.Loading.{segment, program, Fits};
+ghost use Rattle.loader.specs.Loading.{segment, image, Fits};
 ghost use Rattle.store.specs.Store.{Fit, rowsOf};
 ghost use Rattle.counting.specs.Counters.{taking};
 ghost use Rattle.rounds.specs.Calls.{call};
@@ -41,7 +41,10 @@ fn keep_rarest(
     used: usize,
 ) -> Turn
     requires { ⌜ Fit store (now words) (now marks) ⌝ ∗ ⌜ length (now running) ≡ store .rows ⌝ }
-    ensures { λ t. ⌜ afterAs t (rowsOf store (now (words .exit)) (now (marks .exit))) ≡ selected options (rowsOf store (now (words .entry)) (now (marks .entry))) used (taking (now (running .entry)) (rowsOf store (now (words .entry)) (now (marks .entry)))) ⌝ ∗ ⌜ Ready t store (now (words .exit)) (now (marks .exit)) ⌝ }
+    ensures { λ t. ⌜ afterAs t (rowsOf store (now (words .exit)) (now (marks .exit)))
+        ≡ selected options (rowsOf store (now (words .entry)) (now (marks .entry))) used
+        (taking (now (running .entry)) (rowsOf store (now (words .entry)) (now (marks .entry)))) ⌝
+        ∗ ⌜ Ready t store (now (words .exit)) (now (marks .exit)) ⌝ }
 {
     let n = store.rows;
     let mut scores = [0.0; MOST_ROWS];
@@ -74,7 +77,9 @@ fn run_and_keep(
     used: usize,
 ) -> Turn
     requires { ⌜ Fit store (now words) (now marks) ⌝ ∗ ⌜ LimitsAllow (options .«step_size») (rowsOf store (now words) (now marks)) ⌝ }
-    ensures { λ t. ⌜ afterAs t (rowsOf store (now (words .exit)) (now (marks .exit))) ≡ ranOn options (now (tape .entry)) used (rowsOf store (now (words .entry)) (now (marks .entry))) .after ⌝ ∗ ⌜ Ready t store (now (words .exit)) (now (marks .exit)) ⌝ }
+    ensures { λ t. ⌜ afterAs t (rowsOf store (now (words .exit)) (now (marks .exit)))
+        ≡ ranOn options (now (tape .entry)) used (rowsOf store (now (words .entry)) (now (marks .entry))) .after ⌝
+        ∗ ⌜ Ready t store (now (words .exit)) (now (marks .exit)) ⌝ }
 {
     let n = store.rows;
     let mut running = [false; MOST_ROWS];
@@ -111,8 +116,15 @@ pub fn round(
     tape: &[u64],
     used: usize,
 ) -> Turn
-    requires { ⌜ Holding store (now words) (now marks) kept ⌝ ∗ ⌜ T (isCopyRatio (options .«copy_init_ratio»)) ⌝ ∗ ⌜ Fits (store .marks - 32) (segment «code_address» (now code)) ⌝ ∗ ⌜ Fits (store .marks - 32) (segment «data_address» (now «data»)) ⌝ ∗ ⌜ LimitsAllow (options .«step_size») (startOf store (now words) (now marks) kept used .kept) ⌝ }
-    ensures { λ t. ⌜ afterAs t (rowsOf store (now (words .exit)) (now (marks .exit))) ≡ turned (call options store (program (segment «code_address» (now (code .entry))) (segment «data_address» (now («data» .entry)))) (now (tape .entry))) (startOf store (now (words .entry)) (now (marks .entry)) kept used) ⌝ ∗ ⌜ Ready t store (now (words .exit)) (now (marks .exit)) ⌝ }
+    requires { ⌜ Holding store (now words) (now marks) kept ⌝
+        ∗ ⌜ T (isCopyRatio (options .«copy_init_ratio»)) ⌝
+        ∗ ⌜ Fits (store .marks - 32) (segment «code_address» (now code)) ⌝
+        ∗ ⌜ Fits (store .marks - 32) (segment «data_address» (now «data»)) ⌝
+        ∗ ⌜ LimitsAllow (options .«step_size») (startOf store (now words) (now marks) kept used .kept) ⌝ }
+    ensures { λ t. ⌜ afterAs t (rowsOf store (now (words .exit)) (now (marks .exit)))
+        ≡ turned (call options store (image «code_address» (now (code .entry)) «data_address» (now («data» .entry))) (now (tape .entry)))
+        (startOf store (now (words .entry)) (now (marks .entry)) kept used) ⌝
+        ∗ ⌜ Ready t store (now (words .exit)) (now (marks .exit)) ⌝ }
 {
     let filling = create_missing_executors(
         words,
