@@ -2,6 +2,7 @@
 ghost use mathlib.Core.Path.{_≡_};
 ghost use Rattle.answers.specs.Answers.{refusedAnswer};
 
+// Document 01's answer: a number, and what belongs to it.
 #[repr(C)]
 pub struct Answer {
     pub number: u64,

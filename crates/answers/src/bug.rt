@@ -2,6 +2,7 @@
 ghost use mathlib.Core.Path.{_≡_};
 ghost use Rattle.answers.specs.Numbers.{bugNumber, bugValue};
 
+// The bugs, numbers 41 to 45.
 pub enum Bug {
     DivisionByZero,
     AccessToUninitializedMemory(UninitializedMemoryAccessReason),
@@ -12,6 +13,7 @@ pub enum Bug {
     ExitCodeGreaterZero(u64),
 }
 
+// Who used a word that nobody wrote.
 pub enum UninitializedMemoryAccessReason {
     InstructionWithUninitializedOperand,
     // by the write call

@@ -3,6 +3,7 @@
 ghost use mathlib.Core.Path.{_≡_};
 ghost use Rattle.answers.specs.Numbers.{errorNumber, errorValue, reasonValue};
 
+// The errors, numbers 20, 21, 23, 24 and 25.
 pub enum ExecutorError {
     NotSupported(NotSupportedReason),
     InvalidInstructionEncoding,
@@ -12,6 +13,7 @@ pub enum ExecutorError {
     LogFull,
 }
 
+// What 20 cannot do.
 pub enum NotSupportedReason {
     FetchUninitializedWord,
     BrkUninitializedAddress,

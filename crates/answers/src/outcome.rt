@@ -4,6 +4,7 @@ ghost use Rattle.answers.specs.Numbers.{outcomeNumber, outcomeValue, pro
 use crate::bug::Bug;
 use crate::error::ExecutorError;
 
+// How an executor ended.
 pub enum Outcome {
     // exit with 0
     Exited,
@@ -19,6 +20,7 @@ pub enum Progress {
 }
 
 impl Outcome {
+    // Document 01's number: 0 for an exit with 0.
     pub fn number(self) -> u64
         ensures { λ r. ⌜ r ≡ outcomeNumber self ⌝ }
     {
@@ -29,6 +31,7 @@ impl Outcome {
         }
     }
 
+    // The value that belongs to it.
     pub fn value(self) -> u64
         ensures { λ r. ⌜ r ≡ outcomeValue self ⌝ }
     {
@@ -41,6 +44,7 @@ impl Outcome {
 }
 
 impl Progress {
+    // 22, or the outcome's number.
     pub fn number(self) -> u64
         ensures { λ r. ⌜ r ≡ progressNumber self ⌝ }
     {
@@ -50,6 +54,7 @@ impl Progress {
         }
     }
 
+    // 0, or the outcome's value.
     pub fn value(self) -> u64
         ensures { λ r. ⌜ r ≡ progressValue self ⌝ }
     {

@@ -7,26 +7,26 @@ use native.Mathlib.Omega.{arith}
 use lib.Dec.{ltb}
 use lib.ListN.{length, getD, length-set}
 use lib.Seq.{getD-set-other}
-use Rattle.effects.specs.Effects.{next}
-use Rattle.effects.specs.declared.system.SyscallId.{SyscallId}
-use Rattle.effects.specs.declared.system.SyscallId.the-variants as call
-use Rattle.effects.specs.declared.value.Value.{Value}
-use Rattle.effects.specs.declared.value.Value.the-variants.{Concrete, Uninitialized}
+use Rattle.effects.specs.Effects.{following}
+use Rattle.calls.specs.declared.number.SyscallId.{SyscallId}
+use Rattle.calls.specs.declared.number.SyscallId.the-variants as call
+use Rattle.values.specs.declared.Value.{Value}
+use Rattle.values.specs.declared.Value.the-variants.{Concrete, Uninitialized}
 use Rattle.rows.specs.Rows.{Row, header, pcOf, breakOf, depthOf, limitOf, memoryWords, setPc, setBreak, slotAt}
-use Rattle.reading.specs.Reading.{goes, bytes}
+use Rattle.reading.specs.Reading.{running, bytes}
 use Rattle.reading.proofs.Kept.{then-kept, bytes-words, bytes-marks, bytes-header}
 use Rattle.calls.specs.declared.transfer.Transfer.{Transfer}
 use Rattle.calls.specs.declared.transfer.Transfer.the-variants.{Buffer, Refused}
-use Rattle.calls.specs.Calls.{a0, a7, answered, brk, transferOf, readReasons, readTo, read, callOf, idOf, system, completed}
+use Rattle.calls.specs.Calls.{a0, a7, returned, brk, transferOf, readReasons, readTo, read, callOf, idOf, system, completed}
 use Rattle.riscu.proofs.Choices.{chosen}
 
 -- f is what is kept: by a call, if by each way in which one writes a row
-module _ {A : Type 0} (f : Row → A) (pc : (x : ℕ) (r : Row) → f (setPc x r) ≡ f r) (break : (x : ℕ) (r : Row) → f (setBreak x r) ≡ f r) (answer : (x : ℕ) (r : Row) → f (answered x r) ≡ f r) (input : (size : ℕ) (tape : List ℕ) (m used : ℕ) (r : Row) → f (bytes size tape m used r .row) ≡ f r) where
+module _ {A : Type 0} (f : Row → A) (pc : (x : ℕ) (r : Row) → f (setPc x r) ≡ f r) (break : (x : ℕ) (r : Row) → f (setBreak x r) ≡ f r) (answer : (x : ℕ) (r : Row) → f (returned x r) ≡ f r) (input : (size : ℕ) (tape : List ℕ) (m used : ℕ) (r : Row) → f (bytes size tape m used r .row) ≡ f r) where
   brk-kept : (wanted : Value) (r : Row) → f (brk wanted r) ≡ f r
   unfolding brk
   brk-kept (Concrete wanted) r =
       let Same : Row → Type 0 = λ s. f s ≡ f r in
-      let refused = answered (breakOf r) r in
+      let refused = returned (breakOf r) r in
       chosen Same (ltb wanted (breakOf r)) refused (cond (ltb (wanted / 8) (memoryWords r)) (setBreak wanted r) refused)
       (λ t. answer (breakOf r) r)
       (λ t. chosen Same (ltb (wanted / 8) (memoryWords r)) (setBreak wanted r) refused (λ u. break wanted r) (λ u. answer (breakOf r) r))
@@ -35,7 +35,7 @@ module _ {A : Type 0} (f : Row → A) (pc : (x : ℕ) (r : Row) → f (setPc x r
   read-to-kept : (to : Transfer) (tape : List ℕ) (used : ℕ) (r : Row) → f (readTo to tape used r .row) ≡ f r
   unfolding readTo
   read-to-kept (Buffer buffer size) tape used r =
-      then-kept f (λ u s. goes u (answered size s)) (λ u s. answer size s) (bytes size tape (buffer / 8) used r) r
+      then-kept f (λ u s. running u (returned size s)) (λ u s. answer size s) (bytes size tape (buffer / 8) used r) r
       (input size tape (buffer / 8) used r)
   read-to-kept (Refused o) tape used r = search answer
 
@@ -51,7 +51,7 @@ module _ {A : Type 0} (f : Row → A) (pc : (x : ℕ) (r : Row) → f (setPc x r
   unfolding system
   system-kept tape used r =
       let after = callOf (idOf (slotAt r a7)) tape used r .row in
-      pc (next (pcOf after)) after ∙ call-kept (idOf (slotAt r a7)) tape used r
+      pc (following (pcOf after)) after ∙ call-kept (idOf (slotAt r a7)) tape used r
 
 pub completed-words : (size : ℕ) (r : Row) → length (completed size r .words) ≡ length (r .words)
 completed-words size r = length-set (r .words) (header + a0) size

@@ -1,7 +1,7 @@
 -- The system calls on a row ("Executing" in document 01): brk, read, write, exit, and any other.
 use mathlib.Core.Bool.{Bool, true, false, cond}
 use mathlib.Core.List.{List}
-use Prim.Native.Nat.{ℕ, zero, suc, _+_, _/_, _%_, _<_}
+use Prim.Native.Nat.{ℕ, zero, suc, _+_, _/_, _%_}
 use lib.Dec.{eqb, ltb}
 use Rattle.answers.specs.declared.bug.Bug.the-variants.{AccessToUninitializedMemory, AccessToOutOfRangeAddress, ExitCodeGreaterZero}
 use Rattle.answers.specs.declared.bug.UninitializedMemoryAccessReason.the-variants.{ReadUninitializedMemoryAddress}
@@ -12,12 +12,12 @@ use Rattle.answers.specs.declared.outcome.Outcome.{Outcome}
 use Rattle.answers.specs.declared.outcome.Outcome.the-variants.{Exited, Found, Failed}
 use Rattle.answers.specs.declared.outcome.Progress.{Progress}
 use Rattle.answers.specs.declared.outcome.Progress.the-variants.{Running, Ended}
-use Rattle.effects.specs.Effects.{next}
-use Rattle.effects.specs.System.{syscallId}
-use Rattle.effects.specs.declared.system.SyscallId.{SyscallId}
-use Rattle.effects.specs.declared.system.SyscallId.the-variants as call
-use Rattle.effects.specs.declared.value.Value.{Value}
-use Rattle.effects.specs.declared.value.Value.the-variants.{Concrete, Uninitialized}
+use Rattle.effects.specs.Effects.{following}
+use Rattle.calls.specs.CallNumbers.{syscallId}
+use Rattle.calls.specs.declared.number.SyscallId.{SyscallId}
+use Rattle.calls.specs.declared.number.SyscallId.the-variants as call
+use Rattle.values.specs.declared.Value.{Value}
+use Rattle.values.specs.declared.Value.the-variants.{Concrete, Uninitialized}
 use Rattle.rows.specs.Rows.{Row, row, pcOf, breakOf, memoryWords, setPc, setBreak, slotAt, setSlot, memoryAt}
 use Rattle.calls.specs.declared.transfer.Transfer.{Transfer}
 use Rattle.calls.specs.declared.transfer.Transfer.the-variants.{Buffer, Refused}
@@ -25,7 +25,7 @@ use Rattle.calls.specs.declared.transfer.Reasons.{Reasons}
 use Rattle.calls.specs.declared.step.Step.{Step}
 use Rattle.calls.specs.declared.step.Step.the-variants as step
 use Rattle.calls.specs.declared.step.Stepped.{Stepped}
-use Rattle.reading.specs.Reading.{Reached, goes, ends, _thenOn_, bytes}
+use Rattle.reading.specs.Reading.{Reached, running, ended, _thenOn_, bytes}
 
 -- registers a0, a1, a2 and a7
 abbrev pub a0 : ℕ
@@ -43,15 +43,15 @@ a7 = 17
 abbrev pub unsupported : NotSupportedReason → Outcome
 unsupported why = Failed (NotSupported why)
 
--- a call answers in a0
-abbrev pub answered : ℕ → Row → Row
-answered n r = setSlot a0 (Concrete n) r
+-- a call returns its value in a0
+abbrev pub returned : ℕ → Row → Row
+returned n r = setSlot a0 (Concrete n) r
 
 -- brk, by the wanted break in a0: one below the break, or outside memory, is refused by answering the break
 unfoldable pub brk : Value → Row → Row
 brk (Concrete wanted) r =
-    cond (ltb wanted (breakOf r)) (answered (breakOf r) r)
-    (cond (ltb (wanted / 8) (memoryWords r)) (setBreak wanted r) (answered (breakOf r) r))
+    cond (ltb wanted (breakOf r)) (returned (breakOf r) r)
+    (cond (ltb (wanted / 8) (memoryWords r)) (setBreak wanted r) (returned (breakOf r) r))
 brk Uninitialized r = r
 
 unfoldable pub brkProgress : Value → Progress
@@ -88,8 +88,8 @@ writeReasons = record { file = reason.WriteOtherThanStdout; buffer = reason.Writ
 
 -- read: the buffer's words from buffer/8 on, then a0 = size
 unfoldable pub readTo : Transfer → List ℕ → ℕ → Row → Reached
-readTo (Buffer buffer size) tape used r = bytes size tape (buffer / 8) used r thenOn λ used r. goes used (answered size r)
-readTo (Refused o) tape used r = ends o used r
+readTo (Buffer buffer size) tape used r = bytes size tape (buffer / 8) used r thenOn λ used r. running used (returned size r)
+readTo (Refused o) tape used r = ended o used r
 
 unfoldable pub read : List ℕ → ℕ → Row → Reached
 read tape used r = readTo (transferOf 0 readReasons r) tape used r
@@ -149,13 +149,8 @@ idOf Uninitialized = call.Unknown
 unfoldable pub system : List ℕ → ℕ → Row → Called
 system tape used r =
     let x = callOf (idOf (slotAt r a7)) tape used r in
-    record { row = setPc (next (pcOf (x .row))) (x .row); stepped = x .stepped }
+    record { row = setPc (following (pcOf (x .row))) (x .row); stepped = x .stepped }
 
 -- a write that was handed out is done: a0 = size
 abbrev pub completed : ℕ → Row → Row
-completed size r = answered size r
-
--- what a buffer that passed its checks lies within
-abbrev pub Within : ℕ → Transfer → Type 0
-Within w (Buffer buffer size) = (buffer + size) / 8 < w
-Within w (Refused o) = Unit {0}
+completed size r = returned size r

@@ -4,6 +4,7 @@ ghost use Rattle.calls.specs.Calls.{stepOf};
 use answers::outcome::Outcome;
 use answers::outcome::Progress;
 
+// The next instruction may follow, a write call waits to be completed, or the executor has ended.
 pub enum Step {
     // the next instruction may follow
     Running,

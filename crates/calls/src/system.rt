@@ -2,10 +2,13 @@
 ghost use mathlib.Core.Path.{_≡_};
 ghost use Prim.Native.Nat.{_+_, _-_, _≤_};
 ghost use lib.ListN.{length};
-ghost use Rattle.rows.specs.Rows.{row, Shape};
+ghost use Rattle.rows.specs.Rows.{row, Shape, memoryIn};
 ghost use Rattle.reading.specs.Reading.{reached};
 ghost use Rattle.calls.specs.Calls.{brk as brkOf, brkProgress, readTo, read as readOf, allConcrete, writeFrom, write as writeOf, exit as exitOf};
-ghost use Rattle.calls.specs.Calls.{called, callOf, idOf, system as systemOf, completed, Within};
+ghost use Rattle.calls.specs.Calls.{called, callOf, idOf, system as systemOf, completed};
+ghost use Rattle.calls.specs.InMemory.{InMemory};
+use crate::number::SyscallId;
+use crate::number::syscall_id;
 use crate::step::Step;
 use crate::step::Stepped;
 use crate::step::step_of;
@@ -20,18 +23,17 @@ use answers::bug::UninitializedMemoryAccessReason;
 use answers::error::NotSupportedReason;
 use answers::outcome::Outcome;
 use answers::outcome::Progress;
-use effects::system::SyscallId;
-use effects::system::syscall_id;
-use effects::value::Value;
 use reading::Moved;
 use reading::read_bytes;
 use riscu::instruction::INSTRUCTION_SIZE;
 use rows::row::BREAK;
 use rows::row::PC;
 use rows::row::REGISTERS;
+use rows::row::read_memory;
 use rows::row::read_slot;
 use rows::row::write_slot;
 use std::num::wrapping_add_u64;
+use values::Value;
 
 const STDIN: u64 = 0;
 
@@ -39,7 +41,8 @@ const STDOUT: u64 = 1;
 
 fn execute_brk(words: &mut [u64], marks: &mut [u8], wanted: Value) -> Progress
     requires { ⌜ Shape (now words) (now marks) ⌝ }
-    ensures { λ r. ⌜ r ≡ brkProgress wanted ⌝ ∗ ⌜ row (now (words .exit)) (now (marks .exit)) ≡ brkOf wanted (row (now (words .entry)) (now (marks .entry))) ⌝ }
+    ensures { λ r. ⌜ r ≡ brkProgress wanted ⌝ }
+    ensures { λ _. ⌜ row (now (words .exit)) (now (marks .exit)) ≡ brkOf wanted (row (now (words .entry)) (now (marks .entry))) ⌝ }
 {
     let Value::Concrete(address) = wanted else {
         return Progress::Ended(unsupported(NotSupportedReason::BrkUninitializedAddress));
@@ -59,7 +62,8 @@ fn execute_brk(words: &mut [u64], marks: &mut [u8], wanted: Value) -> Progress
 }
 
 fn read_to(words: &mut [u64], marks: &mut [u8], to: Transfer, tape: &[u64], used: usize) -> Moved
-    requires { ⌜ Shape (now words) (now marks) ⌝ ∗ ⌜ Within (length (now marks) - 32) to ⌝ }
+    requires { ⌜ Shape (now words) (now marks) ⌝ }
+    requires { ⌜ InMemory (memoryIn (now marks)) to ⌝ }
     ensures { λ r. ⌜ reached (now (words .exit)) (now (marks .exit)) r ≡ readTo to (now (tape .entry)) used (row (now (words .entry)) (now (marks .entry))) ⌝ }
 {
     match to {
@@ -106,12 +110,13 @@ fn execute_read(words: &mut [u64], marks: &mut [u8], tape: &[u64], used: usize) 
 }
 
 fn all_concrete(words: &[u64], marks: &[u8], n: usize, m: usize) -> bool
-    requires { ⌜ Shape (now words) (now marks) ⌝ ∗ ⌜ m + n ≤ length (now marks) - 32 ⌝ }
+    requires { ⌜ Shape (now words) (now marks) ⌝ }
+    requires { ⌜ m + n ≤ memoryIn (now marks) ⌝ }
     ensures { λ r. ⌜ r ≡ allConcrete n m (row (now (words .entry)) (now (marks .entry))) ⌝ }
 {
     let mut k = 0;
     while k < n {
-        match read_slot(words, marks, REGISTERS + m + k) {
+        match read_memory(words, marks, m + k) {
             Value::Concrete(_) => {}
             Value::Uninitialized => {
                 return false;
@@ -123,7 +128,8 @@ fn all_concrete(words: &[u64], marks: &[u8], n: usize, m: usize) -> bool
 }
 
 fn write_from(words: &[u64], marks: &[u8], from: Transfer) -> Step
-    requires { ⌜ Shape (now words) (now marks) ⌝ ∗ ⌜ Within (length (now marks) - 32) from ⌝ }
+    requires { ⌜ Shape (now words) (now marks) ⌝ }
+    requires { ⌜ InMemory (memoryIn (now marks)) from ⌝ }
     ensures { λ r. ⌜ r ≡ writeFrom from (row (now (words .entry)) (now (marks .entry))) ⌝ }
 {
     match from {

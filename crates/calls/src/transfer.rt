@@ -7,9 +7,9 @@ use answers::bug::Bug;
 use answers::error::ExecutorError;
 use answers::error::NotSupportedReason;
 use answers::outcome::Outcome;
-use effects::value::Value;
 use rows::row::REGISTERS;
 use rows::row::read_slot;
+use values::Value;
 
 // Registers by their names in the calling convention.
 pub(crate) const A0: usize = 10;
@@ -20,6 +20,7 @@ const A2: usize = 12;
 
 pub(crate) const A7: usize = 17;
 
+// What comes of the checks.
 pub enum Transfer {
     // address and size in bytes, all of it in memory
     Buffer { buffer: u64, size: u64 },

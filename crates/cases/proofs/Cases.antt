@@ -5,13 +5,13 @@ use Rattle.riscu.specs.Formats.{signed}
 use Rattle.riscu.specs.Decoding.{decoded, decodedOp}
 use Rattle.effects.specs.Arithmetic.{operated}
 use Rattle.effects.specs.Effects.{effectOf, assign, binaryOp, divuRemu, jalr, validAddress, invalidAddress, storeTo, sd}
-use Rattle.effects.specs.System.{syscallId}
-use Rattle.effects.specs.Values.{valueAt}
-use Rattle.rows.specs.Execution.{applied, effectIn}
+use Rattle.calls.specs.CallNumbers.{syscallId}
+use Rattle.values.specs.Values.{valueAt}
+use Rattle.execution.specs.Execution.{applied, effectIn}
 use Rattle.reading.specs.Reading.{bytes, fullWords, rest, onwards, tail, tailOf, drawn, recorded}
 use Rattle.calls.specs.Calls.{brk, brkProgress, read, readTo, transferOf, bufferAndSize, validRange, system, callOf, idOf, exit}
 use Rattle.loader.specs.Loading.{newExecutor, programmed, started, loaded, loadedFrom}
-use Rattle.machine.specs.Steps.{fetched, halfAt, stepped, advanced, finished, interpreted, executed, followed}
+use Rattle.machine.specs.Steps.{fetched, halfAt, stepped, advanced, settled, interpreted, executed, followed}
 use Rattle.machine.specs.Runs.{runOf, runFor, continued}
 use Rattle.means.specs.Means.{sum, product, shares, exactMean}
 use Rattle.counting.specs.Cells.{baseOf}
@@ -29,7 +29,7 @@ pub cases : ProvedCases
 unfolding operated decoded decodedOp assign valueAt divuRemu toCopy nearest mul ofInt ofBits le baseOf exactMean product shares sum
     bytes fullWords rest onwards tail tailOf drawn recorded brk brkProgress read readTo transferOf bufferAndSize validRange
     fetched halfAt jalr applied runOf runFor newExecutor programmed started loaded loadedFrom sd validAddress invalidAddress storeTo
-    continued advanced finished stepped interpreted executed followed signed effectIn effectOf binaryOp system callOf idOf syscallId exit
+    continued advanced settled stepped interpreted executed followed signed effectIn effectOf binaryOp system callOf idOf syscallId exit
     searchFrom tapeShort roundOf ranOn filled runAll firstBug firstError usedAfter
     cut marksOf storeWords checkedBy searchChecked searchLeft parsed orDefault sheetWords
     digitsUpTo answerLine inputLines lines printedBy searchPrinted sheetLeft lowBytes inBytes
@@ -54,5 +54,5 @@ cases =
       p11 = refl;
       p11-number = refl;
       p12 = refl;
-      whole-case = refl;
+      settled-call-case = refl;
     }

@@ -8,8 +8,8 @@ use Rattle.answers.specs.Numbers.{progressNumber}
 use Rattle.answers.specs.declared.bug.Bug.the-variants.{DivisionByZero, AccessToOutOfRangeAddress}
 use Rattle.answers.specs.declared.outcome.Outcome.the-variants.{Found}
 use Rattle.answers.specs.declared.outcome.Progress.the-variants.{Running}
-use Rattle.effects.specs.declared.system.SyscallId.the-variants as call
-use Rattle.effects.specs.declared.value.Value.the-variants.{Concrete}
+use Rattle.calls.specs.declared.number.SyscallId.the-variants as call
+use Rattle.values.specs.declared.Value.the-variants.{Concrete}
 use Rattle.rows.specs.Rows.{Row, blank, rowWords, rowMarks, logStart, setWord, setPc, setBreak, setLogCount, setSlot, setMemory}
 use Rattle.calls.specs.Calls.{Called, stepTo, callOf, a0, a1, a2}
 use Rattle.calls.specs.declared.step.Step.the-variants as step

@@ -4,6 +4,7 @@ use Prim.Native.Nat.{ℕ, _+_, _*_, _/_, _%_}
 use lib.Dec.{eqb, leb}
 use lib.IntN.{pos}
 use lib.Ieee.{Float, binary64, ofInt, le}
+use Rattle.rows.specs.Limits.{mostRows, memoryUnit, mostMemoryBytes, mostLog}
 use Rattle.rows.specs.Rows.{rowWords, rowMarks}
 use Rattle.checks.specs.declared.refusal.Refusal.{Refusal}
 use Rattle.checks.specs.declared.refusal.Refusal.the-variants.{MemorySize, AmountOfStates, CopyRatio, LogSize, LentLengths, SegmentLength, SegmentEnd, InvalidRow}
@@ -27,11 +28,11 @@ checkedNumber (Refused f) = refusalNumber f
 
 -- 1: memory not a multiple of 1024 in 1024 to 1,048,576
 abbrev pub isMemorySize : ℕ → Bool
-isMemorySize bytes = eqb (bytes % 1024) 0 && leb 1024 bytes && leb bytes 1048576
+isMemorySize bytes = eqb (bytes % memoryUnit) 0 && leb memoryUnit bytes && leb bytes mostMemoryBytes
 
 -- 2: states outside 1 to 4096
 abbrev pub isAmountOfStates : ℕ → Bool
-isAmountOfStates states = leb 1 states && leb states 4096
+isAmountOfStates states = leb 1 states && leb states mostRows
 
 -- 3: ratio not within 0 to 1
 abbrev pub isCopyRatio : Float → Bool
@@ -39,7 +40,7 @@ isCopyRatio ratio = le (ofInt binary64 (pos 0)) ratio && le ratio (ofInt binary6
 
 -- 4: L above 65,536
 abbrev pub isLogSize : ℕ → Bool
-isLogSize l = leb l 65536
+isLogSize l = leb l mostLog
 
 -- 5: lent lengths not exact, for so many rows of W memory words and L log words
 abbrev pub areLengths : ℕ → ℕ → ℕ → ℕ → ℕ → Bool

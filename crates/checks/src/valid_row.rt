@@ -72,6 +72,7 @@ fn sound_row(words: &[u64], marks: &[u8]) -> bool
     zero_register(words, marks)
 }
 
+// The whole test.
 pub fn valid_row(words: &[u64], marks: &[u8]) -> bool
     requires { ⌜ Shape (now words) (now marks) ⌝ }
     ensures { λ r. ⌜ r ≡ validRow (row (now (words .entry)) (now (marks .entry))) ⌝ }

@@ -9,8 +9,8 @@ use mathlib.Core.Bool.{cond}
 use lib.Dec.{eqb, lit≤}
 use lib.ListN.{length, length-append}
 use borrow.Author.Tests.{eq-eqb}
-use Rattle.effects.specs.declared.value.Value.{Value}
-use Rattle.effects.specs.declared.value.Value.the-variants.{Concrete, Uninitialized}
+use Rattle.values.specs.declared.Value.{Value}
+use Rattle.values.specs.declared.Value.the-variants.{Concrete, Uninitialized}
 use Rattle.rows.specs.Rows.{Row, pcOf}
 use Rattle.counting.specs.Cells.{placeAt, places, addressOf, byteAddresses, wordAddresses, addressesTo, addressesOf}
 use Rattle.counting.specs.Counters.{occurrences, counterIn}

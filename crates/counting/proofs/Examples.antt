@@ -2,7 +2,7 @@
 use mathlib.Core.Path.{_≡_, refl}
 use mathlib.Core.List.{_∷_}
 use lib.ListN.{replicate}
-use Rattle.effects.specs.Values.{valueAt}
+use Rattle.values.specs.Values.{valueAt}
 use Rattle.rows.specs.Rows.{Row, row}
 use Rattle.counting.specs.Cells.{placeAt, baseOf, addressOf, byteAddresses, addressesTo, addressesOf}
 use Rattle.counting.specs.Counters.{occurrences}

@@ -8,8 +8,8 @@ use native.Mathlib.Omega.{arith}
 use borrow.Author.Tests.{ltb-true, ltb-false, eqb-true, eqb-false, eq-eqb, ne-eqb}
 use lib.Dec.{eqb, ltb, lit≤}
 use lib.ListN.{length}
-use Rattle.effects.specs.declared.value.Value.{Value}
-use Rattle.effects.specs.declared.value.Value.the-variants.{Concrete, Uninitialized}
+use Rattle.values.specs.declared.Value.{Value}
+use Rattle.values.specs.declared.Value.the-variants.{Concrete, Uninitialized}
 use Rattle.rows.specs.Rows.{Row}
 use Rattle.counting.specs.declared.cells.Holder.{Holder}
 use Rattle.counting.specs.declared.cells.Holder.the-variants.{At, Nowhere}

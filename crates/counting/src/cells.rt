@@ -6,10 +6,10 @@ ghost use Rattle.rows.specs.Rows.{row, Shape};
 ghost use Rattle.counting.specs.Cells.{placeAt, baseOf, byteOf, addressOf, addressesOf};
 ghost use Rattle.counting.specs.Counters.{occurrences};
 ghost use Rattle.counting.specs.Probes.{placeOf, probe};
-use effects::value::Value;
 use rows::row::PC;
 use rows::row::REGISTERS;
 use rows::row::read_slot;
+use values::Value;
 
 // The cells of the lowest bytes: pc is in cell 0, register r in REGISTER_BASE + r, memory word m in MEMORY_BASE + m.
 const REGISTER_BASE: usize = 8;

@@ -13,11 +13,12 @@ use Rattle.riscu.specs.declared.instruction.Instruction.the-variants as instruc
 use Rattle.answers.specs.declared.bug.Bug.the-variants.{DivisionByZero}
 use Rattle.effects.specs.declared.arithmetic.Op.{Op}
 use Rattle.effects.specs.declared.arithmetic.Op.the-variants.{Add, Sub, Mul, Sltu, Divu, Remu}
-use Rattle.effects.specs.declared.value.Value.{Value}
-use Rattle.effects.specs.declared.value.Value.the-variants.{Concrete, Uninitialized}
+use Rattle.values.specs.declared.Value.{Value}
+use Rattle.values.specs.declared.Value.the-variants.{Concrete, Uninitialized}
 use Rattle.effects.specs.declared.effect.Effect.the-variants.{Assign, Load, Store, Jump}
 use Rattle.effects.specs.Arithmetic.{add, operated}
-use Rattle.effects.specs.Effects.{InReach, bug, next, assign, binaryOp, isZero, divuRemu, beq, jalr, validAddress, invalidAddress, loadFrom, ld, storeTo, sd, effectOf}
+use Rattle.effects.specs.Reach.{InReach}
+use Rattle.effects.specs.Effects.{bug, following, assign, binaryOp, isZero, divuRemu, beq, jalr, validAddress, invalidAddress, loadFrom, ld, storeTo, sd, effectOf}
 
 above-zero : (n : ℕ) → eqb n 0 ≡ false → 0 < n
 above-zero n f = let h = eqb-false n 0 f in omega arith
@@ -28,7 +29,7 @@ assign-reach w rd v pc h = chosen (InReach w) (eqb rd 0) (Jump pc) (Assign rd v 
 
 binary-reach : (w : ℕ) (op : Op) (rd pc : ℕ) (a b : Value) → rd < 32 → InReach w (binaryOp op rd pc a b)
 unfolding binaryOp
-binary-reach w op rd pc (Concrete a) (Concrete b) h = assign-reach w rd (Concrete (operated op a b)) (next pc) h
+binary-reach w op rd pc (Concrete a) (Concrete b) h = assign-reach w rd (Concrete (operated op a b)) (following pc) h
 binary-reach w op rd pc (Concrete a) Uninitialized h = tt
 binary-reach w op rd pc Uninitialized b h = tt
 
@@ -45,7 +46,7 @@ beq-reach w imm pc Uninitialized b = tt
 
 jalr-reach : (w rd imm pc : ℕ) (base : Value) → rd < 32 → InReach w (jalr rd imm pc base)
 unfolding jalr
-jalr-reach w rd imm pc (Concrete base) h = assign-reach w rd (Concrete (next pc)) (add base imm) h
+jalr-reach w rd imm pc (Concrete base) h = assign-reach w rd (Concrete (following pc)) (add base imm) h
 jalr-reach w rd imm pc Uninitialized h = tt
 
 -- a valid address names a word below W
@@ -66,7 +67,7 @@ load-reach w address rd pc h =
 
 ld-reach : (w rd imm pc : ℕ) (base : Value) → rd < 32 → InReach w (ld rd imm pc base w)
 unfolding ld
-ld-reach w rd imm pc (Concrete base) h = load-reach w (add base imm) rd (next pc) h
+ld-reach w rd imm pc (Concrete base) h = load-reach w (add base imm) rd (following pc) h
 ld-reach w rd imm pc Uninitialized h = tt
 
 store-reach : (w address : ℕ) (v : Value) (pc : ℕ) → InReach w (storeTo address v pc w)
@@ -76,13 +77,13 @@ store-reach w address v pc =
 
 sd-reach : (w imm pc : ℕ) (base v : Value) → InReach w (sd imm pc base v w)
 unfolding sd
-sd-reach w imm pc (Concrete base) v = store-reach w (add base imm) v (next pc)
+sd-reach w imm pc (Concrete base) v = store-reach w (add base imm) v (following pc)
 sd-reach w imm pc Uninitialized v = tt
 
 pub in-reach : (i : Instruction) (pc : ℕ) (x : ℕ → Value) (w : ℕ) → Registers i → InReach w (effectOf i pc x w)
 unfolding effectOf
-in-reach (instruction.Lui t) pc x w h = assign-reach w (t .rd) (Concrete (t .imm)) (next pc) h
-in-reach (instruction.Jal t) pc x w h = assign-reach w (t .rd) (Concrete (next pc)) (add pc (t .imm)) h
+in-reach (instruction.Lui t) pc x w h = assign-reach w (t .rd) (Concrete (t .imm)) (following pc) h
+in-reach (instruction.Jal t) pc x w h = assign-reach w (t .rd) (Concrete (following pc)) (add pc (t .imm)) h
 in-reach (instruction.Jalr t) pc x w h = jalr-reach w (t .rd) (t .imm) pc (x (t .rs1)) (h .rd)
 in-reach (instruction.Beq t) pc x w h = beq-reach w (immB (t .word)) pc (x (t .rs1)) (x (t .rs2))
 in-reach (instruction.Ld t) pc x w h = ld-reach w (t .rd) (t .imm) pc (x (t .rs1)) (h .rd)

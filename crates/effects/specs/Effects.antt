@@ -1,7 +1,7 @@
 -- What each instruction does ("Executing" in document 01), from its pc, the values of its operands and the number W of memory words.
 -- Arithmetic, addresses and targets are the manual's; where document 01 departs from it, a line says so.
 use mathlib.Core.Bool.{Bool, false, cond, _&&_}
-use Prim.Native.Nat.{ℕ, _/_, _%_, _<_}
+use Prim.Native.Nat.{ℕ, _/_, _%_}
 use lib.Dec.{eqb, ltb}
 use Rattle.riscu.specs.Formats.{immB}
 use Rattle.riscu.specs.declared.instruction.Instruction.{Instruction}
@@ -15,8 +15,8 @@ use Rattle.answers.specs.declared.error.ExecutorError.the-variants.{NotSupporte
 use Rattle.answers.specs.declared.outcome.Outcome.the-variants.{Found, Failed}
 use Rattle.effects.specs.declared.arithmetic.Op.{Op}
 use Rattle.effects.specs.declared.arithmetic.Op.the-variants.{Add, Sub, Mul, Sltu, Divu, Remu}
-use Rattle.effects.specs.declared.value.Value.{Value}
-use Rattle.effects.specs.declared.value.Value.the-variants.{Concrete, Uninitialized}
+use Rattle.values.specs.declared.Value.{Value}
+use Rattle.values.specs.declared.Value.the-variants.{Concrete, Uninitialized}
 use Rattle.effects.specs.declared.effect.Effect.{Effect}
 use Rattle.effects.specs.declared.effect.Effect.the-variants.{Assign, Load, Store, Jump, Call, End}
 use Rattle.effects.specs.Arithmetic.{add, operated}
@@ -31,17 +31,17 @@ notSupported why = End (Failed (NotSupported why))
 abbrev pub missingOperand : Effect
 missingOperand = bug (AccessToUninitializedMemory InstructionWithUninitializedOperand)
 
--- the instruction that follows
-abbrev pub next : ℕ → ℕ
-next pc = add pc 4
+-- the pc of the instruction that follows the one at pc
+abbrev pub following : ℕ → ℕ
+following pc = add pc 4
 
--- rd takes a value and pc goes on; x0 is never written
+-- rd takes a value, and the next pc is given; x0 is never written
 unfoldable pub assign : ℕ → Value → ℕ → Effect
-assign rd v pc = cond (eqb rd 0) (Jump pc) (Assign rd v pc)
+assign rd v nextPc = cond (eqb rd 0) (Jump nextPc) (Assign rd v nextPc)
 
 -- an operation on two operands
 unfoldable pub binaryOp : Op → ℕ → ℕ → Value → Value → Effect
-binaryOp op rd pc (Concrete a) (Concrete b) = assign rd (Concrete (operated op a b)) (next pc)
+binaryOp op rd pc (Concrete a) (Concrete b) = assign rd (Concrete (operated op a b)) (following pc)
 binaryOp op rd pc (Concrete a) Uninitialized = missingOperand
 binaryOp op rd pc Uninitialized b = missingOperand
 
@@ -54,20 +54,20 @@ unfoldable pub divuRemu : Op → ℕ → ℕ → Value → Value → Effect
 divuRemu op rd pc a b = cond (isZero b) (bug DivisionByZero) (binaryOp op rd pc a b)
 
 unfoldable pub beq : ℕ → ℕ → Value → Value → Effect
-beq imm pc (Concrete a) (Concrete b) = Jump (cond (eqb a b) (add pc imm) (next pc))
+beq imm pc (Concrete a) (Concrete b) = Jump (cond (eqb a b) (add pc imm) (following pc))
 beq imm pc (Concrete a) Uninitialized = missingOperand
 beq imm pc Uninitialized b = missingOperand
 
 -- the immediate has been extended by zeros (departure: see immU in riscu's Formats)
 abbrev pub lui : ℕ → ℕ → ℕ → Effect
-lui rd imm pc = assign rd (Concrete imm) (next pc)
+lui rd imm pc = assign rd (Concrete imm) (following pc)
 
 abbrev pub jal : ℕ → ℕ → ℕ → Effect
-jal rd imm pc = assign rd (Concrete (next pc)) (add pc imm)
+jal rd imm pc = assign rd (Concrete (following pc)) (add pc imm)
 
 -- departure: the target keeps its lowest bit, which the manual clears
 unfoldable pub jalr : ℕ → ℕ → ℕ → Value → Effect
-jalr rd imm pc (Concrete base) = assign rd (Concrete (next pc)) (add base imm)
+jalr rd imm pc (Concrete base) = assign rd (Concrete (following pc)) (add base imm)
 jalr rd imm pc Uninitialized = notSupported JalrUninitializedBase
 
 -- an address that names one of the W memory words
@@ -80,18 +80,18 @@ invalidAddress address = bug (cond (eqb (address % 8) 0) AccessToOutOfRangeAddre
 
 -- ld of the word at an address into rd; x0 is never written
 unfoldable pub loadFrom : ℕ → ℕ → ℕ → ℕ → Effect
-loadFrom address rd pc w = cond (validAddress address w) (cond (eqb rd 0) (Jump pc) (Load rd (address / 8) pc)) (invalidAddress address)
+loadFrom address rd nextPc w = cond (validAddress address w) (cond (eqb rd 0) (Jump nextPc) (Load rd (address / 8) nextPc)) (invalidAddress address)
 
 unfoldable pub ld : ℕ → ℕ → ℕ → Value → ℕ → Effect
-ld rd imm pc (Concrete base) w = loadFrom (add base imm) rd (next pc) w
+ld rd imm pc (Concrete base) w = loadFrom (add base imm) rd (following pc) w
 ld rd imm pc Uninitialized w = notSupported LdUninitializedBase
 
 -- sd of a value, which may be uninitialised, to the word at an address
 unfoldable pub storeTo : ℕ → Value → ℕ → ℕ → Effect
-storeTo address v pc w = cond (validAddress address w) (Store (address / 8) v pc) (invalidAddress address)
+storeTo address v nextPc w = cond (validAddress address w) (Store (address / 8) v nextPc) (invalidAddress address)
 
 unfoldable pub sd : ℕ → ℕ → Value → Value → ℕ → Effect
-sd imm pc (Concrete base) v w = storeTo (add base imm) v (next pc) w
+sd imm pc (Concrete base) v w = storeTo (add base imm) v (following pc) w
 sd imm pc Uninitialized v w = notSupported SdUninitializedBase
 
 -- the effect of an instruction at pc, where register n holds x n, with W memory words
@@ -110,12 +110,3 @@ effectOf (instruction.Sltu t) pc x w = binaryOp Sltu (t .rd) pc (x (t .rs1)) (x 
 effectOf (instruction.Divu t) pc x w = divuRemu Divu (t .rd) pc (x (t .rs1)) (x (t .rs2))
 effectOf (instruction.Remu t) pc x w = divuRemu Remu (t .rd) pc (x (t .rs1)) (x (t .rs2))
 effectOf instruction.Ecall pc x w = Call
-
--- what an effect may name on a machine of W memory words: registers 1 to 31, and words below W
-abbrev pub InReach : ℕ → Effect → Type 0
-InReach w (Assign rd v pc) = (0 < rd) × (rd < 32)
-InReach w (Load rd m pc) = (0 < rd) × (rd < 32) × (m < w)
-InReach w (Store m v pc) = m < w
-InReach w (Jump pc) = Unit {0}
-InReach w Call = Unit {0}
-InReach w (End outcome) = Unit {0}

@@ -1,4 +1,3 @@
-pub mod System
-pub mod Values
 pub mod Arithmetic
 pub mod Effects
+pub mod Reach

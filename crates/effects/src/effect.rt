@@ -3,7 +3,7 @@ ghost use mathlib.Core.Path.{_≡_};
 ghost use Prim.Native.Nat.{_<_};
 ghost use Rattle.riscu.specs.Registers.{Registers, RRegisters, IRegisters, SRegisters, BRegisters};
 ghost use Rattle.riscu.specs.Formats.{immB};
-ghost use Rattle.effects.specs.Values.{valueAt, RegisterFile};
+ghost use Rattle.values.specs.Values.{valueAt, RegisterFile};
 ghost use Rattle.effects.specs.Effects.{binaryOp, divuRemu, beq as beqOf, jalr as jalrOf, ld as ldOf, sd as sdOf, effectOf};
 use crate::arithmetic::Op;
 use crate::rules::beq;
@@ -14,25 +14,39 @@ use crate::rules::jalr;
 use crate::rules::ld;
 use crate::rules::lui;
 use crate::rules::sd;
-use crate::value::Value;
-use crate::value::value_at;
 use answers::outcome::Outcome;
 use riscu::instruction::BType;
 use riscu::instruction::IType;
 use riscu::instruction::Instruction;
 use riscu::instruction::RType;
 use riscu::instruction::SType;
+use values::Value;
+use values::value_at;
 
 // What an instruction does to the machine that executes it. Each but a call and an end gives the next pc.
 pub enum Effect {
     // register rd, from 1 to 31, takes a value
-    Assign { rd: usize, value: Value, pc: u64 },
+    Assign {
+        rd: usize,
+        value: Value,
+        next_pc: u64,
+    },
     // register rd, from 1 to 31, takes a memory word
-    Load { rd: usize, word: usize, pc: u64 },
+    Load {
+        rd: usize,
+        word: usize,
+        next_pc: u64,
+    },
     // a memory word takes a value
-    Store { word: usize, value: Value, pc: u64 },
+    Store {
+        word: usize,
+        value: Value,
+        next_pc: u64,
+    },
     // nothing but the next pc
-    Jump { pc: u64 },
+    Jump {
+        next_pc: u64,
+    },
     // a system call is due
     Call,
     // the executor ends
@@ -40,7 +54,8 @@ pub enum Effect {
 }
 
 fn execute_rtype(words: &[u64], marks: &[u8], op: Op, t: RType, pc: u64) -> Effect
-    requires { ⌜ RegisterFile (now words) (now marks) ⌝ ∗ ⌜ RRegisters t ⌝ }
+    requires { ⌜ RegisterFile (now words) (now marks) ⌝ }
+    requires { ⌜ RRegisters t ⌝ }
     ensures { λ r. ⌜ r ≡ binaryOp op (t .rd) pc (valueAt (now (words .entry)) (now (marks .entry)) (t .rs1))
         (valueAt (now (words .entry)) (now (marks .entry)) (t .rs2)) ⌝ }
 {
@@ -50,7 +65,8 @@ fn execute_rtype(words: &[u64], marks: &[u8], op: Op, t: RType, pc: u64) -> Effe
 }
 
 fn execute_divu_remu(words: &[u64], marks: &[u8], op: Op, t: RType, pc: u64) -> Effect
-    requires { ⌜ RegisterFile (now words) (now marks) ⌝ ∗ ⌜ RRegisters t ⌝ }
+    requires { ⌜ RegisterFile (now words) (now marks) ⌝ }
+    requires { ⌜ RRegisters t ⌝ }
     ensures { λ r. ⌜ r ≡ divuRemu op (t .rd) pc (valueAt (now (words .entry)) (now (marks .entry)) (t .rs1))
         (valueAt (now (words .entry)) (now (marks .entry)) (t .rs2)) ⌝ }
 {
@@ -60,7 +76,8 @@ fn execute_divu_remu(words: &[u64], marks: &[u8], op: Op, t: RType, pc: u64) -> 
 }
 
 fn execute_itype(words: &[u64], marks: &[u8], op: Op, t: IType, pc: u64) -> Effect
-    requires { ⌜ RegisterFile (now words) (now marks) ⌝ ∗ ⌜ IRegisters t ⌝ }
+    requires { ⌜ RegisterFile (now words) (now marks) ⌝ }
+    requires { ⌜ IRegisters t ⌝ }
     ensures { λ r. ⌜ r ≡ binaryOp op (t .rd) pc (valueAt (now (words .entry)) (now (marks .entry)) (t .rs1)) (Value.Concrete (t .imm)) ⌝ }
 {
     let a = value_at(words, marks, t.rs1);
@@ -68,7 +85,8 @@ fn execute_itype(words: &[u64], marks: &[u8], op: Op, t: IType, pc: u64) -> Effe
 }
 
 fn execute_beq(words: &[u64], marks: &[u8], t: BType, pc: u64) -> Effect
-    requires { ⌜ RegisterFile (now words) (now marks) ⌝ ∗ ⌜ BRegisters t ⌝ }
+    requires { ⌜ RegisterFile (now words) (now marks) ⌝ }
+    requires { ⌜ BRegisters t ⌝ }
     ensures { λ r. ⌜ r ≡ beqOf (immB (t .word)) pc (valueAt (now (words .entry)) (now (marks .entry)) (t .rs1))
         (valueAt (now (words .entry)) (now (marks .entry)) (t .rs2)) ⌝ }
 {
@@ -78,7 +96,8 @@ fn execute_beq(words: &[u64], marks: &[u8], t: BType, pc: u64) -> Effect
 }
 
 fn execute_jalr(words: &[u64], marks: &[u8], t: IType, pc: u64) -> Effect
-    requires { ⌜ RegisterFile (now words) (now marks) ⌝ ∗ ⌜ IRegisters t ⌝ }
+    requires { ⌜ RegisterFile (now words) (now marks) ⌝ }
+    requires { ⌜ IRegisters t ⌝ }
     ensures { λ r. ⌜ r ≡ jalrOf (t .rd) (t .imm) pc (valueAt (now (words .entry)) (now (marks .entry)) (t .rs1)) ⌝ }
 {
     let base = value_at(words, marks, t.rs1);
@@ -86,7 +105,8 @@ fn execute_jalr(words: &[u64], marks: &[u8], t: IType, pc: u64) -> Effect
 }
 
 fn execute_ld(words: &[u64], marks: &[u8], t: IType, pc: u64, memory: u64) -> Effect
-    requires { ⌜ RegisterFile (now words) (now marks) ⌝ ∗ ⌜ IRegisters t ⌝ }
+    requires { ⌜ RegisterFile (now words) (now marks) ⌝ }
+    requires { ⌜ IRegisters t ⌝ }
     ensures { λ r. ⌜ r ≡ ldOf (t .rd) (t .imm) pc (valueAt (now (words .entry)) (now (marks .entry)) (t .rs1)) memory ⌝ }
 {
     let base = value_at(words, marks, t.rs1);
@@ -94,7 +114,8 @@ fn execute_ld(words: &[u64], marks: &[u8], t: IType, pc: u64, memory: u64) -> Ef
 }
 
 fn execute_sd(words: &[u64], marks: &[u8], t: SType, pc: u64, memory: u64) -> Effect
-    requires { ⌜ RegisterFile (now words) (now marks) ⌝ ∗ ⌜ SRegisters t ⌝ }
+    requires { ⌜ RegisterFile (now words) (now marks) ⌝ }
+    requires { ⌜ SRegisters t ⌝ }
     ensures { λ r. ⌜ r ≡ sdOf (t .imm) pc (valueAt (now (words .entry)) (now (marks .entry)) (t .rs1))
         (valueAt (now (words .entry)) (now (marks .entry)) (t .rs2)) memory ⌝ }
 {
@@ -112,7 +133,8 @@ pub fn effect_of(
     pc: u64,
     memory: u64,
 ) -> Effect
-    requires { ⌜ RegisterFile (now words) (now marks) ⌝ ∗ ⌜ Registers instruction ⌝ }
+    requires { ⌜ RegisterFile (now words) (now marks) ⌝ }
+    requires { ⌜ Registers instruction ⌝ }
     ensures { λ r. ⌜ r ≡ effectOf instruction pc (valueAt (now (words .entry)) (now (marks .entry))) memory ⌝ }
 {
     match instruction {

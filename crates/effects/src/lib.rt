@@ -3,5 +3,3 @@
 mod arithmetic;
 pub mod effect;
 mod rules;
-pub mod system;
-pub mod value;

@@ -2,12 +2,11 @@
 ghost use mathlib.Core.Path.{_≡_};
 ghost use Rattle.riscu.specs.Formats.{immB};
 ghost use Rattle.effects.specs.Effects.{notSupported, missingOperand, binaryOp, isZero, divuRemu};
-ghost use Rattle.effects.specs.Effects.{next as nextOf, assign as assignOf, validAddress, invalidAddress, loadFrom, storeTo};
+ghost use Rattle.effects.specs.Effects.{following as followingOf, assign as assignOf, validAddress, invalidAddress, loadFrom, storeTo};
 ghost use Rattle.effects.specs.Effects.{lui as luiOf, beq as beqOf, jal as jalOf, jalr as jalrOf, ld as ldOf, sd as sdOf};
 use crate::arithmetic::Op;
 use crate::arithmetic::operate;
 use crate::effect::Effect;
-use crate::value::Value;
 use answers::bug::Bug;
 use answers::bug::UninitializedMemoryAccessReason;
 use answers::error::ExecutorError;
@@ -16,9 +15,11 @@ use answers::outcome::Outcome;
 use riscu::immediate::imm_b;
 use riscu::instruction::INSTRUCTION_SIZE;
 use std::num::wrapping_add_u64;
+use values::Value;
 
-fn next(pc: u64) -> u64
-    ensures { λ r. ⌜ r ≡ nextOf pc ⌝ }
+// The pc of the instruction that follows.
+fn following(pc: u64) -> u64
+    ensures { λ r. ⌜ r ≡ followingOf pc ⌝ }
 {
     wrapping_add_u64(pc, INSTRUCTION_SIZE)
 }
@@ -38,20 +39,20 @@ fn not_supported(reason: NotSupportedReason) -> Effect
 }
 
 // x0 is never written.
-fn assign_rd(rd: usize, value: Value, pc: u64) -> Effect
-    ensures { λ r. ⌜ r ≡ assignOf rd value pc ⌝ }
+fn assign_rd(rd: usize, value: Value, next_pc: u64) -> Effect
+    ensures { λ r. ⌜ r ≡ assignOf rd value «next_pc» ⌝ }
 {
     if rd == 0 {
-        Effect::Jump { pc }
+        Effect::Jump { next_pc }
     } else {
-        Effect::Assign { rd, value, pc }
+        Effect::Assign { rd, value, next_pc }
     }
 }
 
 pub(crate) fn lui(rd: usize, imm: u64, pc: u64) -> Effect
     ensures { λ r. ⌜ r ≡ luiOf rd imm pc ⌝ }
 {
-    assign_rd(rd, Value::Concrete(imm), next(pc))
+    assign_rd(rd, Value::Concrete(imm), following(pc))
 }
 
 pub(crate) fn binary_op(op: Op, rd: usize, pc: u64, a: Value, b: Value) -> Effect
@@ -63,7 +64,7 @@ pub(crate) fn binary_op(op: Op, rd: usize, pc: u64, a: Value, b: Value) -> Effec
     let Value::Concrete(y) = b else {
         return missing_operand();
     };
-    assign_rd(rd, Value::Concrete(operate(op, x, y)), next(pc))
+    assign_rd(rd, Value::Concrete(operate(op, x, y)), following(pc))
 }
 
 fn is_zero(v: Value) -> bool
@@ -98,17 +99,23 @@ pub(crate) fn beq(word: u32, pc: u64, a: Value, b: Value) -> Effect
     };
     if x == y {
         Effect::Jump {
-            pc: wrapping_add_u64(pc, imm_b(word)),
+            next_pc: wrapping_add_u64(pc, imm_b(word)),
         }
     } else {
-        Effect::Jump { pc: next(pc) }
+        Effect::Jump {
+            next_pc: following(pc),
+        }
     }
 }
 
 pub(crate) fn jal(rd: usize, imm: u64, pc: u64) -> Effect
     ensures { λ r. ⌜ r ≡ jalOf rd imm pc ⌝ }
 {
-    assign_rd(rd, Value::Concrete(next(pc)), wrapping_add_u64(pc, imm))
+    assign_rd(
+        rd,
+        Value::Concrete(following(pc)),
+        wrapping_add_u64(pc, imm),
+    )
 }
 
 pub(crate) fn jalr(rd: usize, imm: u64, pc: u64, a: Value) -> Effect
@@ -117,7 +124,11 @@ pub(crate) fn jalr(rd: usize, imm: u64, pc: u64, a: Value) -> Effect
     let Value::Concrete(base) = a else {
         return not_supported(NotSupportedReason::JalrUninitializedBase);
     };
-    assign_rd(rd, Value::Concrete(next(pc)), wrapping_add_u64(base, imm))
+    assign_rd(
+        rd,
+        Value::Concrete(following(pc)),
+        wrapping_add_u64(base, imm),
+    )
 }
 
 // Whether an address names a word of a memory of `memory` words.
@@ -137,17 +148,17 @@ fn invalid_memory_address(address: u64) -> Effect
     }
 }
 
-fn load_from(address: u64, rd: usize, pc: u64, memory: u64) -> Effect
-    ensures { λ r. ⌜ r ≡ loadFrom address rd pc memory ⌝ }
+fn load_from(address: u64, rd: usize, next_pc: u64, memory: u64) -> Effect
+    ensures { λ r. ⌜ r ≡ loadFrom address rd «next_pc» memory ⌝ }
 {
     if is_valid_memory_address(address, memory) {
         if rd == 0 {
-            Effect::Jump { pc }
+            Effect::Jump { next_pc }
         } else {
             Effect::Load {
                 rd,
                 word: (address / 8) as usize,
-                pc,
+                next_pc,
             }
         }
     } else {
@@ -161,17 +172,17 @@ pub(crate) fn ld(rd: usize, imm: u64, pc: u64, a: Value, memory: u64) -> Effect
     let Value::Concrete(base) = a else {
         return not_supported(NotSupportedReason::LdUninitializedBase);
     };
-    load_from(wrapping_add_u64(base, imm), rd, next(pc), memory)
+    load_from(wrapping_add_u64(base, imm), rd, following(pc), memory)
 }
 
-fn store_to(address: u64, value: Value, pc: u64, memory: u64) -> Effect
-    ensures { λ r. ⌜ r ≡ storeTo address value pc memory ⌝ }
+fn store_to(address: u64, value: Value, next_pc: u64, memory: u64) -> Effect
+    ensures { λ r. ⌜ r ≡ storeTo address value «next_pc» memory ⌝ }
 {
     if is_valid_memory_address(address, memory) {
         Effect::Store {
             word: (address / 8) as usize,
             value,
-            pc,
+            next_pc,
         }
     } else {
         invalid_memory_address(address)
@@ -184,5 +195,5 @@ pub(crate) fn sd(imm: u64, pc: u64, a: Value, value: Value, memory: u64) -> Effe
     let Value::Concrete(base) = a else {
         return not_supported(NotSupportedReason::SdUninitializedBase);
     };
-    store_to(wrapping_add_u64(base, imm), value, next(pc), memory)
+    store_to(wrapping_add_u64(base, imm), value, following(pc), memory)
 }

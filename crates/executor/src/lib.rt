@@ -20,6 +20,7 @@ use checks::segments::check_segments;
 use checks::valid_row::valid_row;
 use machine::run::Ran;
 
+// What a run of one row answers.
 pub enum RunAnswer {
     Refused(Refusal),
     Ran(Ran),
@@ -128,6 +129,7 @@ fn answer_of(ran: Ran) -> Answer
 }
 
 impl RunAnswer {
+    // Document 01's answer.
     pub fn answer(self) -> Answer
         ensures { λ r. ⌜ r ≡ runAnswer self ⌝ }
     {

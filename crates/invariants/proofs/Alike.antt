@@ -4,8 +4,8 @@ use mathlib.Core.Bool.{Bool, true, false, cond}
 use mathlib.Core.Path.{_≡_, ap, ap₂}
 use Prim.Native.Nat.{ℕ, _+_, _<_}
 use lib.ListN.{length, drop}
-use Rattle.effects.specs.Values.{valueAt}
-use Rattle.effects.specs.declared.value.Value.{Value}
+use Rattle.values.specs.Values.{valueAt}
+use Rattle.values.specs.declared.Value.{Value}
 use Rattle.rows.specs.Rows.{Row, header, pcOf, breakOf, depthOf, logStart, logCount, logRoom, memoryWords, setWord, setLogCount, slotAt, setSlot}
 
 -- all that is read of a row: everything but its limit

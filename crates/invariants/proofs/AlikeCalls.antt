@@ -6,18 +6,19 @@ use Prim.Native.Nat.{ℕ, zero, suc, _+_, _/_, _%_}
 use native.Mathlib.Omega.{arith}
 use lib.Dec.{ltb}
 use lib.ListN.{length}
-use Rattle.effects.specs.declared.system.SyscallId.{SyscallId}
-use Rattle.effects.specs.declared.system.SyscallId.the-variants as call
-use Rattle.effects.specs.declared.value.Value.{Value}
-use Rattle.effects.specs.declared.value.Value.the-variants.{Concrete, Uninitialized}
+use Rattle.calls.specs.declared.number.SyscallId.{SyscallId}
+use Rattle.calls.specs.declared.number.SyscallId.the-variants as call
+use Rattle.values.specs.declared.Value.{Value}
+use Rattle.values.specs.declared.Value.the-variants.{Concrete, Uninitialized}
 use Rattle.rows.specs.Rows.{Row, breakOf, memoryWords, slotAt}
 use Rattle.reading.specs.declared.Moved.{Moved}
-use Rattle.reading.specs.Reading.{goes}
+use Rattle.reading.specs.Reading.{running}
 use Rattle.calls.specs.declared.transfer.Transfer.{Transfer}
 use Rattle.calls.specs.declared.transfer.Transfer.the-variants.{Buffer, Refused}
 use Rattle.calls.specs.declared.transfer.Reasons.{Reasons}
-use Rattle.calls.specs.Calls.{Called, Within, a0, a1, a2, a7, answered, brk, transferOf, readReasons, writeReasons, readTo, read, isConcrete, allConcrete, writeFrom, write, stepOf, callOf, idOf, system}
-use Rattle.calls.proofs.Ranges.{transfer-within}
+use Rattle.calls.specs.InMemory.{InMemory}
+use Rattle.calls.specs.Calls.{Called, a0, a1, a2, a7, returned, brk, transferOf, readReasons, writeReasons, readTo, read, isConcrete, allConcrete, writeFrom, write, stepOf, callOf, idOf, system}
+use Rattle.calls.proofs.Ranges.{transfer-in-memory}
 use Rattle.invariants.proofs.Alike.{Same, Alike, same-slot, both-chosen}
 use Rattle.invariants.proofs.AlikeReading.{Both, then-alike, bytes-alike}
 
@@ -46,7 +47,7 @@ pub record BothCalled (R : Row → Row → Type 0) (x y : Called) : Type 0 where
 
 module _ (w : ℕ) (R : Row → Row → Type 0) (alike : Alike w R) where
   -- a0 is a register
-  pub answer-alike : (x : ℕ) {r s : Row} → R r s → R (answered x r) (answered x s)
+  pub answer-alike : (x : ℕ) {r s : Row} → R r s → R (returned x r) (returned x s)
   answer-alike x h = alike .to-slot a0 (Concrete x) (omega arith) (omega arith) h
 
   brk-alike : (wanted : Value) (r s : Row) → R r s → R (brk wanted r) (brk wanted s)
@@ -60,10 +61,10 @@ module _ (w : ℕ) (R : Row → Row → Type 0) (alike : Alike w R) where
   brk-alike Uninitialized r s h = h
 
   -- the words of a buffer are in memory
-  read-to-alike : (to : Transfer) (tape : List ℕ) (used : ℕ) (r s : Row) → Within w to → R r s → Both R (readTo to tape used r) (readTo to tape used s)
+  read-to-alike : (to : Transfer) (tape : List ℕ) (used : ℕ) (r s : Row) → InMemory w to → R r s → Both R (readTo to tape used r) (readTo to tape used s)
   unfolding readTo
   read-to-alike (Buffer buffer size) tape used r s k h =
-      then-alike w R alike (λ u q. goes u (answered size q)) (λ u p q i. record { rows = answer-alike size i; moved = refl })
+      then-alike w R alike (λ u q. running u (returned size q)) (λ u p q i. record { rows = answer-alike size i; moved = refl })
       (bytes-alike w R alike size tape (buffer / 8) used r s (omega arith) h)
   read-to-alike (Refused o) tape used r s k h = record { rows = h; moved = refl }
 
@@ -71,7 +72,7 @@ module _ (w : ℕ) (R : Row → Row → Type 0) (alike : Alike w R) where
   unfolding read
   read-alike tape used r s h =
       rw (← same-transfer (alike .same h) 0 readReasons)
-      (read-to-alike (transferOf 0 readReasons r) tape used r s (rw (alike .memory h) at (transfer-within 0 readReasons r)) h)
+      (read-to-alike (transferOf 0 readReasons r) tape used r s (rw (alike .memory h) at (transfer-in-memory 0 readReasons r)) h)
 
   call-alike : (id : SyscallId) (tape : List ℕ) (used : ℕ) (r s : Row) → R r s → BothCalled R (callOf id tape used r) (callOf id tape used s)
   unfolding callOf

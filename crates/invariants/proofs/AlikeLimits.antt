@@ -5,7 +5,7 @@ use Prim.Native.Nat.{ℕ, _+_, _<_}
 use native.Mathlib.Omega.{arith}
 use lib.ListN.{getD, set, length-set}
 use lib.Seq.{getD-set-other, set-comm, drop-set-lt}
-use Rattle.effects.specs.declared.value.Value.{Value}
+use Rattle.values.specs.declared.Value.{Value}
 use Rattle.rows.specs.Rows.{Row, row, header, memoryWords, logStart, logRoom, logCount, setWord, setLimit, setLogCount, wordOf, markOf, setSlot}
 use Rattle.invariants.proofs.Alike.{Same, Alike, logged}
 

@@ -6,8 +6,8 @@ use native.Mathlib.Omega.{arith}
 use lib.Dec.{eqb}
 use Rattle.answers.specs.declared.outcome.Progress.{Progress}
 use Rattle.answers.specs.declared.outcome.Progress.the-variants.{Running, Ended}
-use Rattle.effects.specs.declared.value.Value.{Value}
-use Rattle.effects.specs.declared.value.Value.the-variants.{Concrete, Uninitialized}
+use Rattle.values.specs.declared.Value.{Value}
+use Rattle.values.specs.declared.Value.the-variants.{Concrete, Uninitialized}
 use Rattle.rows.specs.Rows.{Row, memoryAt, logCount, logRoom}
 use Rattle.reading.specs.declared.Drawn.{Drawn}
 use Rattle.reading.specs.declared.Drawn.the-variants.{Word, Refused}

@@ -9,17 +9,17 @@ use Rattle.riscu.specs.declared.instruction.Instruction.{Instruction}
 use Rattle.riscu.specs.declared.instruction.Decoded.{Decoded}
 use Rattle.riscu.specs.declared.instruction.Decoded.the-variants.{Valid, Invalid}
 use Rattle.riscu.proofs.Registers.{decoded-registers}
-use Rattle.effects.specs.Effects.{InReach}
+use Rattle.effects.specs.Reach.{InReach}
 use Rattle.effects.specs.declared.effect.Effect.{Effect}
 use Rattle.effects.specs.declared.effect.Effect.the-variants as effect
 use Rattle.effects.proofs.Reach.{in-reach}
 use Rattle.rows.specs.Rows.{Row, pcOf, depthOf, memoryWords, slotAt, memoryAt}
-use Rattle.rows.specs.Execution.{effectIn, applied, nextOf}
-use Rattle.rows.specs.declared.execute.Next.{Next}
-use Rattle.rows.specs.declared.execute.Next.the-variants as next
+use Rattle.execution.specs.Execution.{effectIn, applied, nextOf}
+use Rattle.execution.specs.declared.Next.{Next}
+use Rattle.execution.specs.declared.Next.the-variants as next
 use Rattle.calls.specs.declared.step.Step.{Step}
 use Rattle.calls.specs.declared.step.Step.the-variants as step
-use Rattle.machine.specs.Steps.{fetched, followed, executed, interpreted, deeper, stepped, finished, advanced}
+use Rattle.machine.specs.Steps.{fetched, followed, executed, interpreted, deeper, stepped, settled, advanced}
 use Rattle.machine.specs.declared.step.Fetched.{Fetched}
 use Rattle.machine.specs.declared.step.Fetched.the-variants.{Word, Refused}
 use Rattle.invariants.proofs.Alike.{Same, Alike, same-slots, same-slot}
@@ -78,14 +78,14 @@ module _ (w : ℕ) (R : Row → Row → Type 0) (alike : Alike w R) where
       let d = deeper-alike r s h in
       rw (← same-fetch (alike .same d)) (interpreted-alike (fetched (deeper r)) tape used (deeper r) (deeper s) d)
 
-  finished-alike : (x : Step) (used : ℕ) (r s : Row) → R r s → Both R (finished x used r) (finished x used s)
-  unfolding finished
-  finished-alike step.Running used r s h = record { rows = h; moved = refl }
-  finished-alike (step.Write buffer size) used r s h = record { rows = answer-alike w R alike size h; moved = refl }
-  finished-alike (step.Ended o) used r s h = record { rows = h; moved = refl }
+  settled-alike : (x : Step) (used : ℕ) (r s : Row) → R r s → Both R (settled x used r) (settled x used s)
+  unfolding settled
+  settled-alike step.Running used r s h = record { rows = h; moved = refl }
+  settled-alike (step.Write buffer size) used r s h = record { rows = answer-alike w R alike size h; moved = refl }
+  settled-alike (step.Ended o) used r s h = record { rows = h; moved = refl }
 
   pub advanced-alike : (tape : List ℕ) (used : ℕ) (r s : Row) → R r s → Both R (advanced tape used r) (advanced tape used s)
   unfolding advanced
   advanced-alike tape used r s h =
       let b = stepped-alike tape used r s h in
-      rw (← b .stepped) (finished-alike _ _ _ _ (b .rows))
+      rw (← b .stepped) (settled-alike _ _ _ _ (b .rows))

@@ -2,7 +2,7 @@
 use mathlib.Core.List.{List}
 use mathlib.Core.Path.{_≡_, refl, ap, subst}
 use Prim.Native.Nat.{ℕ, _+_, _<_}
-use Rattle.effects.specs.declared.value.Value.{Value}
+use Rattle.values.specs.declared.Value.{Value}
 use Rattle.rows.specs.Rows.{Row, logCount, logRoom, memoryWords, setWord, setSlot}
 use Rattle.machine.specs.Steps.{advanced}
 use Rattle.invariants.proofs.Alike.{Same, Alike, logged}

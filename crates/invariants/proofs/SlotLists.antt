@@ -8,8 +8,8 @@ use lib.Dec.{eqb}
 use lib.ListN.{length, getD, set, drop}
 use borrow.Author.Tests.{eqb-true}
 use Rattle.riscu.proofs.Choices.{parts}
-use Rattle.effects.specs.declared.value.Value.{Value}
-use Rattle.effects.specs.declared.value.Value.the-variants.{Concrete, Uninitialized}
+use Rattle.values.specs.declared.Value.{Value}
+use Rattle.values.specs.declared.Value.the-variants.{Concrete, Uninitialized}
 use Rattle.rows.specs.Rows.{wordOf, markOf}
 use Rattle.rows.specs.Valid.{slotValid, slotsValid, allZero}
 

@@ -4,7 +4,7 @@ use Prim.Native.Nat.{ℕ, _+_, _<_}
 use native.Mathlib.Omega.{arith}
 use lib.ListN.{length, set, drop, length-set}
 use lib.Seq.{getD-set-same, getD-set-other, drop-set-lt, drop-set-add, drop-drop}
-use Rattle.effects.specs.declared.value.Value.{Value}
+use Rattle.values.specs.declared.Value.{Value}
 use Rattle.rows.specs.Rows.{Row, header, logStart, logRoom, logCount, setWord, setSlot, wordOf, markOf}
 use Rattle.invariants.proofs.Alike.{logged}
 use Rattle.invariants.proofs.SlotLists.{slots-set, slots-past, zeros-on}

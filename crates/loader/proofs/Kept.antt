@@ -5,7 +5,7 @@ use Prim.Native.Nat.{ℕ, zero, suc, _+_, _-_, _*_, _/_, _<_, _≤_}
 use native.Mathlib.Omega.{arith}
 use lib.ListN.{length, getD, length-set, length-replicate, getD-replicate}
 use lib.Seq.{getD-set-same, getD-set-other}
-use Rattle.effects.specs.declared.value.Value.the-variants.{Concrete}
+use Rattle.values.specs.declared.Value.the-variants.{Concrete}
 use Rattle.rows.specs.Rows.{Row, blank, header, memoryWords, depthOf, limitOf, logCount, setWord, setSlot, setMemory}
 use Rattle.loader.specs.Loading.{Segment, Program, wordAt, loadedFrom, loaded, started, programmed, newExecutor}
 

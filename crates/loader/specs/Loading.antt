@@ -3,7 +3,7 @@ use mathlib.Core.Path.{_≡_}
 use mathlib.Core.List.{List}
 use Prim.Native.Nat.{ℕ, zero, suc, _+_, _-_, _*_, _/_, _%_, _^_, _≤_, _<_}
 use lib.ListN.{length, getD}
-use Rattle.effects.specs.declared.value.Value.the-variants.{Concrete}
+use Rattle.values.specs.declared.Value.the-variants.{Concrete}
 use Rattle.rows.specs.Rows.{Row, blank, memoryWords, setPc, setBreak, setSlot, setMemory}
 
 -- a part of a program: where it is to lie, and its bytes

@@ -2,15 +2,17 @@
 ghost use mathlib.Core.Path.{_≡_};
 ghost use Prim.Native.Nat.{_+_, _-_, _/_, _<_, _≤_, _^_};
 ghost use lib.ListN.{length};
-ghost use Rattle.rows.specs.Rows.{row, Shape};
+ghost use Rattle.values.specs.Values.{registerCount};
+ghost use Rattle.rows.specs.Rows.{row, Shape, memoryIn};
 ghost use Rattle.loader.specs.Loading.{segment, image, wordAt, loadedFrom, loaded, started, programmed, newExecutor, Fits};
-use effects::value::Value;
 use rows::clear::clear_marks;
 use rows::clear::clear_words;
 use rows::row::BREAK;
 use rows::row::PC;
 use rows::row::REGISTERS;
+use rows::row::write_memory;
 use rows::row::write_slot;
+use values::Value;
 
 const ZERO: usize = 0;
 
@@ -38,7 +40,8 @@ pub fn word_at(bytes: &[u8], i: usize) -> u64
 }
 
 fn load_segment(words: &mut [u64], marks: &mut [u8], address: u64, bytes: &[u8])
-    requires { ⌜ Shape (now words) (now marks) ⌝ ∗ ⌜ Fits (length (now marks) - 32) (segment address (now bytes)) ⌝ }
+    requires { ⌜ Shape (now words) (now marks) ⌝ }
+    requires { ⌜ Fits (memoryIn (now marks)) (segment address (now bytes)) ⌝ }
     ensures { λ _. ⌜ row (now (words .exit)) (now (marks .exit))
         ≡ loaded (segment address (now (bytes .entry))) (row (now (words .entry)) (now (marks .entry))) ⌝ }
 {
@@ -46,24 +49,20 @@ fn load_segment(words: &mut [u64], marks: &mut [u8], address: u64, bytes: &[u8])
     let m = (address / 8) as usize;
     let mut k = 0;
     while k < n {
-        write_slot(
-            words,
-            marks,
-            REGISTERS + m + k,
-            Value::Concrete(word_at(bytes, 8 * k)),
-        );
+        write_memory(words, marks, m + k, Value::Concrete(word_at(bytes, 8 * k)));
         k += 1;
     }
 }
 
 fn start(words: &mut [u64], marks: &mut [u8])
-    requires { ⌜ Shape (now words) (now marks) ⌝ ∗ ⌜ 32 < length (now marks) ⌝ }
+    requires { ⌜ Shape (now words) (now marks) ⌝ }
+    requires { ⌜ registerCount < length (now marks) ⌝ }
     ensures { λ _. ⌜ row (now (words .exit)) (now (marks .exit)) ≡ started (row (now (words .entry)) (now (marks .entry))) ⌝ }
 {
     let memory = marks.len() - REGISTERS;
     write_slot(words, marks, SP, Value::Concrete((8 * memory - 8) as u64));
     write_slot(words, marks, ZERO, Value::Concrete(0));
-    write_slot(words, marks, REGISTERS + memory - 1, Value::Concrete(0));
+    write_memory(words, marks, memory - 1, Value::Concrete(0));
 }
 
 // Sets a row up to run a program; what it held before is not cleared.
@@ -75,10 +74,10 @@ pub fn load_program(
     data_address: u64,
     data: &[u8],
 )
-    requires { ⌜ Shape (now words) (now marks) ⌝
-        ∗ ⌜ 32 < length (now marks) ⌝
-        ∗ ⌜ Fits (length (now marks) - 32) (segment «code_address» (now code)) ⌝
-        ∗ ⌜ Fits (length (now marks) - 32) (segment «data_address» (now «data»)) ⌝ }
+    requires { ⌜ Shape (now words) (now marks) ⌝ }
+    requires { ⌜ registerCount < length (now marks) ⌝ }
+    requires { ⌜ Fits (memoryIn (now marks)) (segment «code_address» (now code)) ⌝ }
+    requires { ⌜ Fits (memoryIn (now marks)) (segment «data_address» (now «data»)) ⌝ }
     ensures { λ _. ⌜ row (now (words .exit)) (now (marks .exit))
         ≡ programmed (image «code_address» (now (code .entry)) «data_address» (now («data» .entry))) (row (now (words .entry)) (now (marks .entry))) ⌝ }
 {
@@ -98,10 +97,10 @@ pub fn new_executor(
     data_address: u64,
     data: &[u8],
 )
-    requires { ⌜ Shape (now words) (now marks) ⌝
-        ∗ ⌜ 32 < length (now marks) ⌝
-        ∗ ⌜ Fits (length (now marks) - 32) (segment «code_address» (now code)) ⌝
-        ∗ ⌜ Fits (length (now marks) - 32) (segment «data_address» (now «data»)) ⌝ }
+    requires { ⌜ Shape (now words) (now marks) ⌝ }
+    requires { ⌜ registerCount < length (now marks) ⌝ }
+    requires { ⌜ Fits (memoryIn (now marks)) (segment «code_address» (now code)) ⌝ }
+    requires { ⌜ Fits (memoryIn (now marks)) (segment «data_address» (now «data»)) ⌝ }
     ensures { λ _. ⌜ row (now (words .exit)) (now (marks .exit))
         ≡ newExecutor (image «code_address» (now (code .entry)) «data_address» (now («data» .entry))) (length (now (words .entry)))
         (length (now (marks .entry))) ⌝ }

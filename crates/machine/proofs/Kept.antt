@@ -10,15 +10,15 @@ use Rattle.riscu.specs.declared.instruction.Decoded.{Decoded}
 use Rattle.riscu.specs.declared.instruction.Decoded.the-variants.{Valid, Invalid}
 use Rattle.effects.specs.declared.effect.Effect.{Effect}
 use Rattle.rows.specs.Rows.{Row, depthOf, limitOf}
-use Rattle.rows.specs.Execution.{effectIn, applied, nextOf}
-use Rattle.rows.specs.declared.execute.Next.{Next}
-use Rattle.rows.specs.declared.execute.Next.the-variants as next
-use Rattle.rows.proofs.Kept.{applied-words, applied-marks, applied-header}
+use Rattle.execution.specs.Execution.{effectIn, applied, nextOf}
+use Rattle.execution.specs.declared.Next.{Next}
+use Rattle.execution.specs.declared.Next.the-variants as next
+use Rattle.execution.proofs.Kept.{applied-words, applied-marks, applied-header}
 use Rattle.calls.specs.Calls.{system, completed}
 use Rattle.calls.specs.declared.step.Step.{Step}
 use Rattle.calls.specs.declared.step.Step.the-variants as step
 use Rattle.calls.proofs.Kept.{system-words, system-marks, system-depth, system-limit, completed-words, completed-marks, completed-depth, completed-limit}
-use Rattle.machine.specs.Steps.{fetched, followed, executed, interpreted, deeper, stepped, finished, advanced}
+use Rattle.machine.specs.Steps.{fetched, followed, executed, interpreted, deeper, stepped, settled, advanced}
 use Rattle.machine.specs.declared.step.Fetched.{Fetched}
 use Rattle.machine.specs.declared.step.Fetched.the-variants.{Word, Refused}
 
@@ -41,17 +41,17 @@ module _ (f : Row → ℕ) (by-effect : (e : Effect) (r : Row) → f (applied e 
   interpreted-kept (Word x) tape used r = executed-kept (decoded x) tape used r
   interpreted-kept (Refused e) tape used r = refl
 
-  finished-kept : (s : Step) (used : ℕ) (r : Row) → f (finished s used r .row) ≡ f r
-  unfolding finished
-  finished-kept step.Running used r = refl
-  finished-kept (step.Write buffer size) used r = by-write size r
-  finished-kept (step.Ended o) used r = refl
+  settled-kept : (s : Step) (used : ℕ) (r : Row) → f (settled s used r .row) ≡ f r
+  unfolding settled
+  settled-kept step.Running used r = refl
+  settled-kept (step.Write buffer size) used r = by-write size r
+  settled-kept (step.Ended o) used r = refl
 
   pub advanced-kept : (tape : List ℕ) (used : ℕ) (r : Row) → f (advanced tape used r .row) ≡ f (deeper r)
   unfolding advanced stepped
   advanced-kept tape used r =
       let x = interpreted (fetched (deeper r)) tape used (deeper r) in
-      finished-kept (x .stepped .step) (x .stepped .used) (x .row) ∙ interpreted-kept (fetched (deeper r)) tape used (deeper r)
+      settled-kept (x .stepped .step) (x .stepped .used) (x .row) ∙ interpreted-kept (fetched (deeper r)) tape used (deeper r)
 
 pub advanced-words : (tape : List ℕ) (used : ℕ) (r : Row) → length (advanced tape used r .row .words) ≡ length (r .words)
 advanced-words tape used r =

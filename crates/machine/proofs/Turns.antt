@@ -14,8 +14,8 @@ use Rattle.answers.specs.declared.outcome.Outcome.{Outcome}
 use Rattle.answers.specs.declared.outcome.Outcome.the-variants.{Failed}
 use Rattle.answers.specs.declared.outcome.Progress.the-variants.{Running, Ended}
 use Rattle.rows.specs.Rows.{Row, row, pcOf, depthOf, limitOf, setLimit}
-use Rattle.reading.specs.Reading.{Reached, ends}
-use Rattle.machine.specs.Steps.{fetched, deeper, executed, interpreted, stepped, finished, whole, advanced}
+use Rattle.reading.specs.Reading.{Reached, ended}
+use Rattle.machine.specs.Steps.{fetched, deeper, executed, interpreted, stepped, settled, settledCall, advanced}
 use Rattle.machine.specs.declared.step.Fetched.the-variants.{Word, Refused}
 use Rattle.machine.specs.Runs.{stops, continued, runFor, runOf}
 use Rattle.machine.proofs.Kept.{advanced-depth}
@@ -53,18 +53,18 @@ module _ (limit : ℕ) (tape : List ℕ) (used : ℕ) (r : Row) (x : Reached) (h
   stopped o p = sym (before-limit limit tape used r h ∙ rw (← e, p))
 
 -- an instruction that was fetched and decoded
-pub by-word : (tape : List ℕ) (used : ℕ) (r after : Row) (word : ℕ) (d : Decoded) → Word word ≡ fetched (deeper r) → d ≡ decoded word → after ≡ deeper r → whole (executed d tape used after) ≡ advanced tape used r
+pub by-word : (tape : List ℕ) (used : ℕ) (r after : Row) (word : ℕ) (d : Decoded) → Word word ≡ fetched (deeper r) → d ≡ decoded word → after ≡ deeper r → settledCall (executed d tape used after) ≡ advanced tape used r
 unfolding advanced stepped interpreted
 by-word tape used r after word d f e a = rw (a, e, ← f)
 
 -- one that could not be decoded
-pub by-invalid : (tape : List ℕ) (used : ℕ) (r : Row) (word : ℕ) → Word word ≡ fetched (deeper r) → Invalid ≡ decoded word → ends (Failed InvalidInstructionEncoding) used (deeper r) ≡ advanced tape used r
-unfolding executed finished
+pub by-invalid : (tape : List ℕ) (used : ℕ) (r : Row) (word : ℕ) → Word word ≡ fetched (deeper r) → Invalid ≡ decoded word → ended (Failed InvalidInstructionEncoding) used (deeper r) ≡ advanced tape used r
+unfolding executed settled
 by-invalid tape used r word f e = by-word tape used r (deeper r) word Invalid f e refl
 
 -- one that could not be fetched
-pub by-refusal : (tape : List ℕ) (used : ℕ) (r : Row) (error : ExecutorError) → Refused error ≡ fetched (deeper r) → ends (Failed error) used (deeper r) ≡ advanced tape used r
-unfolding advanced stepped interpreted finished
+pub by-refusal : (tape : List ℕ) (used : ℕ) (r : Row) (error : ExecutorError) → Refused error ≡ fetched (deeper r) → ended (Failed error) used (deeper r) ≡ advanced tape used r
+unfolding advanced stepped interpreted settled
 by-refusal tape used r error f = rw (← f)
 
 -- a run starts with its limit grown

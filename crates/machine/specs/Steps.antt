@@ -9,13 +9,13 @@ use Rattle.riscu.specs.declared.instruction.Decoded.the-variants.{Valid, Invali
 use Rattle.answers.specs.declared.error.NotSupportedReason.the-variants.{FetchUninitializedWord}
 use Rattle.answers.specs.declared.error.ExecutorError.the-variants.{NotSupported, InvalidInstructionEncoding, PcOutOfRange}
 use Rattle.answers.specs.declared.outcome.Outcome.the-variants.{Failed}
-use Rattle.effects.specs.declared.value.Value.{Value}
-use Rattle.effects.specs.declared.value.Value.the-variants.{Concrete, Uninitialized}
+use Rattle.values.specs.declared.Value.{Value}
+use Rattle.values.specs.declared.Value.the-variants.{Concrete, Uninitialized}
 use Rattle.rows.specs.Rows.{Row, pcOf, depthOf, memoryWords, setDepth, memoryAt}
-use Rattle.rows.specs.Execution.{effectIn, applied, nextOf}
-use Rattle.rows.specs.declared.execute.Next.{Next}
-use Rattle.rows.specs.declared.execute.Next.the-variants as next
-use Rattle.reading.specs.Reading.{Reached, goes, ends}
+use Rattle.execution.specs.Execution.{effectIn, applied, nextOf}
+use Rattle.execution.specs.declared.Next.{Next}
+use Rattle.execution.specs.declared.Next.the-variants as next
+use Rattle.reading.specs.Reading.{Reached, running, ended}
 use Rattle.calls.specs.Calls.{Called, stepTo, system, completed}
 use Rattle.calls.specs.declared.step.Step.{Step}
 use Rattle.calls.specs.declared.step.Step.the-variants as step
@@ -54,14 +54,14 @@ unfoldable pub stepped : List ℕ → ℕ → Row → Called
 stepped tape used r = interpreted (fetched (deeper r)) tape used (deeper r)
 
 -- a write call that a step hands out is completed; its bytes go nowhere
-unfoldable pub finished : Step → ℕ → Row → Reached
-finished step.Running used r = goes used r
-finished (step.Write buffer size) used r = goes used (completed size r)
-finished (step.Ended o) used r = ends o used r
+unfoldable pub settled : Step → ℕ → Row → Reached
+settled step.Running used r = running used r
+settled (step.Write buffer size) used r = running used (completed size r)
+settled (step.Ended o) used r = ended o used r
 
-abbrev pub whole : Called → Reached
-whole x = finished (x .stepped .step) (x .stepped .used) (x .row)
+abbrev pub settledCall : Called → Reached
+settledCall x = settled (x .stepped .step) (x .stepped .used) (x .row)
 
 -- one instruction, whole
 unfoldable pub advanced : List ℕ → ℕ → Row → Reached
-advanced tape used r = whole (stepped tape used r)
+advanced tape used r = settledCall (stepped tape used r)

@@ -90,7 +90,8 @@ fn run_to(words: &mut [u64], marks: &mut [u8], limit: u64, tape: &[u64], used: u
 
 // Runs at most `step` instructions more.
 pub fn run(words: &mut [u64], marks: &mut [u8], step: u32, tape: &[u64], used: usize) -> Ran
-    requires { ⌜ Shape (now words) (now marks) ⌝ ∗ ⌜ limitOf (row (now words) (now marks)) + step < 2 ^ 64 ⌝ }
+    requires { ⌜ Shape (now words) (now marks) ⌝ }
+    requires { ⌜ limitOf (row (now words) (now marks)) + step < 2 ^ 64 ⌝ }
     ensures { λ r. ⌜ finishedAs (now (words .exit)) (now (marks .exit)) r
         ≡ runOf step (now (tape .entry)) used (row (now (words .entry)) (now (marks .entry))) ⌝ }
 {

@@ -6,7 +6,7 @@ ghost use Rattle.riscu.specs.declared.instruction.Decoded.the-variants.{Valid};
 ghost use Rattle.rows.specs.Rows.{row, Shape, depthOf};
 ghost use Rattle.reading.specs.Reading.{reached};
 ghost use Rattle.calls.specs.Calls.{called};
-ghost use Rattle.machine.specs.Steps.{halfAt, fetched, followed, executed, finished, deeper, whole};
+ghost use Rattle.machine.specs.Steps.{halfAt, fetched, followed, executed, settled, deeper, settledCall};
 use answers::error::ExecutorError;
 use answers::error::NotSupportedReason;
 use answers::outcome::Outcome;
@@ -15,18 +15,19 @@ use calls::step::Step;
 use calls::step::Stepped;
 use calls::system::complete_write;
 use calls::system::execute_ecall;
-use effects::value::Value;
+use execution::Next;
+use execution::execute;
 use reading::Moved;
 use riscu::instruction::Instruction;
-use rows::execute::Next;
-use rows::execute::execute;
 use rows::row::DEPTH;
 use rows::row::PC;
 use rows::row::REGISTERS;
-use rows::row::read_slot;
+use rows::row::read_memory;
+use values::Value;
 
 const HALF: u64 = 0x1_0000_0000;
 
+// The word at pc, or why there is none.
 pub enum Fetched {
     Word(u32),
     Refused(ExecutorError),
@@ -54,7 +55,7 @@ fn fetch(words: &[u64], marks: &[u8]) -> Fetched
     let pc = words[PC];
     let m = (pc / 8) as usize;
     if m < marks.len() - REGISTERS {
-        half_at(pc, read_slot(words, marks, REGISTERS + m))
+        half_at(pc, read_memory(words, marks, m))
     } else {
         Fetched::Refused(ExecutorError::PcOutOfRange)
     }
@@ -80,17 +81,18 @@ fn follow(words: &mut [u64], marks: &mut [u8], next: Next, tape: &[u64], used: u
 
 // Fetches the next instruction, which counts as executed.
 pub(crate) fn fetch_next(words: &mut [u64], marks: &[u8]) -> Fetched
-    requires { ⌜ Shape (now words) (now marks) ⌝ ∗ ⌜ depthOf (row (now words) (now marks)) + 1 < 2 ^ 64 ⌝ }
-    ensures { λ r. ⌜ r ≡ fetched (deeper (row (now (words .entry)) (now (marks .entry)))) ⌝
-        ∗ ⌜ row (now (words .exit)) (now (marks .entry)) ≡ deeper (row (now (words .entry)) (now (marks .entry))) ⌝ }
+    requires { ⌜ Shape (now words) (now marks) ⌝ }
+    requires { ⌜ depthOf (row (now words) (now marks)) + 1 < 2 ^ 64 ⌝ }
+    ensures { λ r. ⌜ r ≡ fetched (deeper (row (now (words .entry)) (now (marks .entry)))) ⌝ }
+    ensures { λ _. ⌜ row (now (words .exit)) (now (marks .entry)) ≡ deeper (row (now (words .entry)) (now (marks .entry))) ⌝ }
 {
     words[DEPTH] = words[DEPTH] + 1;
     fetch(words, marks)
 }
 
-fn finish(words: &mut [u64], marks: &mut [u8], step: Step, used: usize) -> Moved
+fn settle(words: &mut [u64], marks: &mut [u8], step: Step, used: usize) -> Moved
     requires { ⌜ Shape (now words) (now marks) ⌝ }
-    ensures { λ r. ⌜ reached (now (words .exit)) (now (marks .exit)) r ≡ finished step used (row (now (words .entry)) (now (marks .entry))) ⌝ }
+    ensures { λ r. ⌜ reached (now (words .exit)) (now (marks .exit)) r ≡ settled step used (row (now (words .entry)) (now (marks .entry))) ⌝ }
 {
     match step {
         Step::Running => Moved {
@@ -119,13 +121,14 @@ pub(crate) fn advance(
     tape: &[u64],
     used: usize,
 ) -> Moved
-    requires { ⌜ Shape (now words) (now marks) ⌝ ∗ ⌜ Registers instruction ⌝ }
+    requires { ⌜ Shape (now words) (now marks) ⌝ }
+    requires { ⌜ Registers instruction ⌝ }
     ensures { λ r. ⌜ reached (now (words .exit)) (now (marks .exit)) r
-        ≡ whole (executed (Valid instruction) (now (tape .entry)) used (row (now (words .entry)) (now (marks .entry)))) ⌝ }
+        ≡ settledCall (executed (Valid instruction) (now (tape .entry)) used (row (now (words .entry)) (now (marks .entry)))) ⌝ }
 {
     let next = execute(words, marks, instruction);
     let stepped = follow(words, marks, next, tape, used);
     let at = stepped.used;
     let came_to = stepped.step;
-    finish(words, marks, came_to, at)
+    settle(words, marks, came_to, at)
 }

@@ -5,6 +5,7 @@ ghost use mathlib.Core.List.{[]};
 ghost use Prim.Native.Nat.{_≤_, _-_};
 ghost use Rattle.means.specs.Tallies.{tally, withCounter, meanOf, Within, mostCounters};
 
+// The two means.
 pub enum MeanType {
     Arithmetic,
     Harmonic,
@@ -18,6 +19,7 @@ pub struct Tally {
 }
 
 impl Tally {
+    // Of no counters.
     pub fn new() -> Tally
         ensures { λ r. ⌜ r ≡ tally [] ⌝ }
     {
@@ -28,8 +30,10 @@ impl Tally {
         }
     }
 
+    // With one counter more.
     pub fn add(self, counter: u64) -> Tally
-        requires { ⌜ Within (mostCounters - 1) self ⌝ ∗ ⌜ counter ≤ 32768 ⌝ }
+        requires { ⌜ Within (mostCounters - 1) self ⌝ }
+        requires { ⌜ counter ≤ 32768 ⌝ }
         ensures { λ r. ⌜ r ≡ withCounter self counter ⌝ }
     {
         Tally {
@@ -39,6 +43,7 @@ impl Tally {
         }
     }
 
+    // Their mean: at least one was taken in.
     pub fn mean(self, mean: MeanType) -> f64
         requires { ⌜ Within mostCounters self ⌝ }
         ensures { λ r. ⌜ r ≡ meanOf mean self ⌝ }

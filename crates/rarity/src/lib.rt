@@ -13,10 +13,10 @@ use counting::cells::base_of;
 use counting::cells::byte_of;
 use counting::cells::place_at;
 use counting::counter::counter;
-use effects::value::Value;
 use means::MeanType;
 use means::Tally;
 use store::layout::Layout;
+use values::Value;
 
 // Takes in the eight counters of a concrete word.
 fn tally_word(

@@ -9,12 +9,12 @@ use lib.Seq.{getD-set-other}
 use Rattle.riscu.proofs.Choices.{chosen}
 use Rattle.answers.specs.declared.outcome.Progress.{Progress}
 use Rattle.answers.specs.declared.outcome.Progress.the-variants.{Running, Ended}
-use Rattle.effects.specs.declared.value.Value.{Value}
-use Rattle.effects.specs.declared.value.Value.the-variants.{Concrete, Uninitialized}
+use Rattle.values.specs.declared.Value.{Value}
+use Rattle.values.specs.declared.Value.the-variants.{Concrete, Uninitialized}
 use Rattle.rows.specs.Rows.{Row, header, logStart, logCount, setWord, setLogCount, memoryAt}
 use Rattle.reading.specs.declared.Drawn.{Drawn}
 use Rattle.reading.specs.declared.Drawn.the-variants.{Word, Refused}
-use Rattle.reading.specs.Reading.{Reached, goes, onwards, _thenOn_, drawn, recorded, fullWord, fullWords, tailOf, tail, rest, bytes}
+use Rattle.reading.specs.Reading.{Reached, running, onwards, _thenOn_, drawn, recorded, fullWord, fullWords, tailOf, tail, rest, bytes}
 
 -- f is what is kept: by two things in turn, if by each
 module _ {A : Type 0} (f : Row → A) (then : ℕ → Row → Reached) (each : (used : ℕ) (s : Row) → f (then used s .row) ≡ f s) where
@@ -53,7 +53,7 @@ module _ {A : Type 0} (f : Row → A) (each : (m logged stored : ℕ) (r : Row) 
   rest-kept : (size : ℕ) (tape : List ℕ) (m used : ℕ) (r : Row) → f (rest size tape m used r .row) ≡ f r
   unfolding rest
   rest-kept size tape m used r =
-      chosen (λ (x : Reached). f (x .row) ≡ f r) (eqb (size % 8) 0) (goes used r) (tail (memoryAt r (m + size / 8)) tape (2 ^ (8 * (size % 8))) (m + size / 8) used r)
+      chosen (λ (x : Reached). f (x .row) ≡ f r) (eqb (size % 8) 0) (running used r) (tail (memoryAt r (m + size / 8)) tape (2 ^ (8 * (size % 8))) (m + size / 8) used r)
       (λ t. refl) (λ t. tail-kept (memoryAt r (m + size / 8)) tape (2 ^ (8 * (size % 8))) (m + size / 8) used r)
 
   pub bytes-kept : (size : ℕ) (tape : List ℕ) (m used : ℕ) (r : Row) → f (bytes size tape m used r .row) ≡ f r

@@ -7,7 +7,7 @@ use Rattle.answers.specs.declared.outcome.Outcome.{Outcome}
 use Rattle.answers.specs.declared.outcome.Progress.{Progress}
 use Rattle.answers.specs.declared.outcome.Progress.the-variants.{Running, Ended}
 use Rattle.rows.specs.Rows.{Row}
-use Rattle.reading.specs.Reading.{Reached, goes, ends, onwards, _thenOn_, drawn, fullWord, fullWords}
+use Rattle.reading.specs.Reading.{Reached, running, ended, onwards, _thenOn_, drawn, fullWord, fullWords}
 
 -- k of n words are read, and x is what reading the next comes to
 module _ (n k m : ℕ) (tape : List ℕ) (used : ℕ) (r : Row) (x : Reached) (more : k < n) (read : x ≡ fullWord (drawn tape used r) (m + k) used r) where
@@ -25,12 +25,12 @@ module _ (n k m : ℕ) (tape : List ℕ) (used : ℕ) (r : Row) (x : Reached) (m
   unfolding onwards
   read-on e = turn-by Running e
 
-  pub read-ended : (o : Outcome) → x .moved .progress ≡ Ended o → ends o (x .moved .used) (x .row) ≡ fullWords (n - k) tape (m + k) used r
+  pub read-ended : (o : Outcome) → x .moved .progress ≡ Ended o → ended o (x .moved .used) (x .row) ≡ fullWords (n - k) tape (m + k) used r
   unfolding onwards
   read-ended o e = turn-by (Ended o) e
 
 -- no word is left
-pub read-all : (n k m : ℕ) (tape : List ℕ) (used : ℕ) (r : Row) → n ≤ k → goes used r ≡ fullWords (n - k) tape (m + k) used r
+pub read-all : (n k m : ℕ) (tape : List ℕ) (used : ℕ) (r : Row) → n ≤ k → running used r ≡ fullWords (n - k) tape (m + k) used r
 unfolding fullWords
 read-all n k m tape used r h = let left : n - k ≡ 0 = omega arith in rw left
 

@@ -2,17 +2,16 @@
 ghost use mathlib.Core.Path.{_≡_};
 ghost use Prim.Native.Nat.{_+_, _-_, _*_, _/_, _<_, _≤_, _^_};
 ghost use lib.ListN.{length, getD};
-ghost use Rattle.rows.specs.Rows.{row, Shape, logRoom, logCount};
+ghost use Rattle.rows.specs.Rows.{row, Shape, memoryIn, logRoom, logCount};
 ghost use Rattle.reading.specs.Reading.{reached, drawn as drawnOf, recorded, fullWord, fullWords, tail as tailIn, rest as restOf, bytes as bytesOf};
 use answers::error::ExecutorError;
 use answers::outcome::Outcome;
 use answers::outcome::Progress;
-use effects::value::Value;
 use rows::row::HEADER;
 use rows::row::LOG_COUNT;
-use rows::row::REGISTERS;
-use rows::row::read_slot;
-use rows::row::write_slot;
+use rows::row::read_memory;
+use rows::row::write_memory;
+use values::Value;
 
 // Whether the executor goes on, and how many tape words are used so far.
 pub struct Moved {
@@ -20,6 +19,7 @@ pub struct Moved {
     pub used: usize,
 }
 
+// The next tape word, or why there is none.
 pub enum Drawn {
     Word(u64),
     Refused(ExecutorError),
@@ -41,16 +41,16 @@ fn draw(words: &[u64], marks: &[u8], tape: &[u64], used: usize) -> Drawn
 
 // Logs a word, and stores one in memory word m.
 fn record(words: &mut [u64], marks: &mut [u8], m: usize, logged: u64, stored: u64)
-    requires { ⌜ Shape (now words) (now marks) ⌝
-        ∗ ⌜ m < length (now marks) - 32 ⌝
-        ∗ ⌜ logCount (row (now words) (now marks)) < logRoom (row (now words) (now marks)) ⌝ }
+    requires { ⌜ Shape (now words) (now marks) ⌝ }
+    requires { ⌜ m < memoryIn (now marks) ⌝ }
+    requires { ⌜ logCount (row (now words) (now marks)) < logRoom (row (now words) (now marks)) ⌝ }
     ensures { λ _. ⌜ row (now (words .exit)) (now (marks .exit)) ≡ recorded m logged stored (row (now (words .entry)) (now (marks .entry))) ⌝ }
 {
     let count = words[LOG_COUNT] as usize;
     let at = marks.len() + HEADER + count;
     words[at] = logged;
     words[LOG_COUNT] = (count + 1) as u64;
-    write_slot(words, marks, REGISTERS + m, Value::Concrete(stored));
+    write_memory(words, marks, m, Value::Concrete(stored));
 }
 
 fn refuse(error: ExecutorError, used: usize) -> Moved
@@ -63,7 +63,8 @@ fn refuse(error: ExecutorError, used: usize) -> Moved
 }
 
 fn read_word(words: &mut [u64], marks: &mut [u8], tape: &[u64], m: usize, used: usize) -> Moved
-    requires { ⌜ Shape (now words) (now marks) ⌝ ∗ ⌜ m < length (now marks) - 32 ⌝ }
+    requires { ⌜ Shape (now words) (now marks) ⌝ }
+    requires { ⌜ m < memoryIn (now marks) ⌝ }
     ensures { λ r. ⌜ reached (now (words .exit)) (now (marks .exit)) r
         ≡ fullWord (drawnOf (now (tape .entry)) used (row (now (words .entry)) (now (marks .entry)))) m used
         (row (now (words .entry)) (now (marks .entry))) ⌝ }
@@ -88,7 +89,8 @@ fn read_words(
     m: usize,
     used: usize,
 ) -> Moved
-    requires { ⌜ Shape (now words) (now marks) ⌝ ∗ ⌜ m + n ≤ length (now marks) - 32 ⌝ }
+    requires { ⌜ Shape (now words) (now marks) ⌝ }
+    requires { ⌜ m + n ≤ memoryIn (now marks) ⌝ }
     ensures { λ r. ⌜ reached (now (words .exit)) (now (marks .exit)) r
         ≡ fullWords n (now (tape .entry)) m used (row (now (words .entry)) (now (marks .entry))) ⌝ }
 {
@@ -117,7 +119,8 @@ fn read_words(
 
 // 2^8k for a tail of k bytes.
 fn unit_of(k: u64) -> u64
-    requires { ⌜ 0 < k ⌝ ∗ ⌜ k < 8 ⌝ }
+    requires { ⌜ 0 < k ⌝ }
+    requires { ⌜ k < 8 ⌝ }
     ensures { λ r. ⌜ r ≡ 2 ^ (8 * k) ⌝ }
 {
     match k {
@@ -141,7 +144,10 @@ fn read_tail(
     m: usize,
     used: usize,
 ) -> Moved
-    requires { ⌜ Shape (now words) (now marks) ⌝ ∗ ⌜ m < length (now marks) - 32 ⌝ ∗ ⌜ 0 < k ⌝ ∗ ⌜ k < 8 ⌝ }
+    requires { ⌜ Shape (now words) (now marks) ⌝ }
+    requires { ⌜ m < memoryIn (now marks) ⌝ }
+    requires { ⌜ 0 < k ⌝ }
+    requires { ⌜ k < 8 ⌝ }
     ensures { λ r. ⌜ reached (now (words .exit)) (now (marks .exit)) r
         ≡ tailIn word (now (tape .entry)) (2 ^ (8 * k)) m used (row (now (words .entry)) (now (marks .entry))) ⌝ }
 {
@@ -173,7 +179,8 @@ fn read_rest(
     m: usize,
     used: usize,
 ) -> Moved
-    requires { ⌜ Shape (now words) (now marks) ⌝ ∗ ⌜ m + (size + 7) / 8 ≤ length (now marks) - 32 ⌝ }
+    requires { ⌜ Shape (now words) (now marks) ⌝ }
+    requires { ⌜ m + (size + 7) / 8 ≤ memoryIn (now marks) ⌝ }
     ensures { λ r. ⌜ reached (now (words .exit)) (now (marks .exit)) r
         ≡ restOf size (now (tape .entry)) m used (row (now (words .entry)) (now (marks .entry))) ⌝ }
 {
@@ -185,7 +192,7 @@ fn read_rest(
         };
     }
     let last = m + (size / 8) as usize;
-    let word = read_slot(words, marks, REGISTERS + last);
+    let word = read_memory(words, marks, last);
     read_tail(words, marks, tape, word, k, last, used)
 }
 
@@ -198,7 +205,8 @@ pub fn read_bytes(
     m: usize,
     used: usize,
 ) -> Moved
-    requires { ⌜ Shape (now words) (now marks) ⌝ ∗ ⌜ m + (size + 7) / 8 ≤ length (now marks) - 32 ⌝ }
+    requires { ⌜ Shape (now words) (now marks) ⌝ }
+    requires { ⌜ m + (size + 7) / 8 ≤ memoryIn (now marks) ⌝ }
     ensures { λ r. ⌜ reached (now (words .exit)) (now (marks .exit)) r
         ≡ bytesOf size (now (tape .entry)) m used (row (now (words .entry)) (now (marks .entry))) ⌝ }
 {

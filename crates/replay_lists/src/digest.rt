@@ -5,6 +5,7 @@ ghost use Rattle.replay_lists.specs.Digests.{put, putAll, digestOf};
 // What stands in lent words and marks before the first call: no call leaves it so.
 pub const JUNK: u64 = 0x6e75_7473;
 
+// The same for marks, of which none is 7 in a row.
 pub const JUNK_MARK: u8 = 7;
 
 const START: u64 = 0x9e37_79b9_7f4a_7c15;
@@ -55,6 +56,7 @@ fn with_marks(before: u64, marks: &[u8]) -> u64
     digest
 }
 
+// The digest of a row or a store.
 pub fn digest_of(words: &[u64], marks: &[u8]) -> u64
     ensures { λ r. ⌜ r ≡ digestOf (now (words .entry)) (now (marks .entry)) ⌝ }
 {

@@ -21,7 +21,8 @@ struct Part {
 }
 
 fn with_bytes(before: Line, numbers: &mut [u64], text: &[u8]) -> Part
-    ensures { λ r. ⌜ r .taken ≤ length (now (text .entry)) ⌝ ∗ ⌜ (0 < length (now (text .entry)) → 0 < r .taken) ⌝ }
+    ensures { λ r. ⌜ r .taken ≤ length (now (text .entry)) ⌝ }
+    ensures { λ r. ⌜ (0 < length (now (text .entry)) → 0 < r .taken) ⌝ }
 {
     let mut line = before;
     let mut i = 0;

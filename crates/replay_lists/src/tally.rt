@@ -11,6 +11,7 @@ pub struct Judged {
     pub parts: u64,
 }
 
+// What came of the lines so far.
 pub struct Tally {
     cases: u64,
     agree: u64,
@@ -20,6 +21,7 @@ pub struct Tally {
     disagree: u64,
 }
 
+// The judgement of a line that does not agree, with so many parts.
 pub fn disagrees(parts: u64) -> Judged
     ensures { λ r. ⌜ r ≡ record { agrees = false; parts = parts } ⌝ }
 {
@@ -65,6 +67,7 @@ fn print_line(number: u64, text: &[u8]) {
 }
 
 impl Tally {
+    // Of no lines.
     pub fn new() -> Tally
         ensures { λ r. ⌜ r ≡ nothing ⌝ }
     {

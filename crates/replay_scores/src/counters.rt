@@ -45,7 +45,9 @@ fn store_of(numbers: &[u64]) -> Layout
 
 // The counter of a cell and a byte value; the store has as many words and marks as it must.
 fn counted(words: &[u64], marks: &[u8], store: Layout, cell: usize, byte: u64) -> u64
-    requires { ⌜ Fit store (now words) (now marks) ⌝ ∗ ⌜ store .rows ≤ 16 ⌝ ∗ ⌜ byte < 256 ⌝ }
+    requires { ⌜ Fit store (now words) (now marks) ⌝ }
+    requires { ⌜ store .rows ≤ 16 ⌝ }
+    requires { ⌜ byte < 256 ⌝ }
 {
     let flags = [true; MOST_ROWS];
     let rows = store.rows;

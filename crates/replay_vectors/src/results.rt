@@ -17,10 +17,10 @@ use crate::tally::Departure;
 use crate::tally::Verdict;
 use effects::effect::Effect;
 use effects::effect::effect_of;
-use effects::value::Value;
 use riscu::decode::decode;
 use riscu::instruction::Decoded;
 use riscu::instruction::Instruction;
+use values::Value;
 
 // Where the columns start.
 const MARK: usize = 0;
@@ -84,20 +84,20 @@ fn step_of(effect: Effect, rd: usize) -> Taken {
         Effect::Assign {
             rd: assigned,
             value,
-            pc,
+            next_pc,
         } => {
             let Value::Concrete(value) = value else {
                 return Taken::Other;
             };
             if assigned == rd && rd != 0 {
-                goes_on(value, pc)
+                goes_on(value, next_pc)
             } else {
                 Taken::Other
             }
         }
-        Effect::Jump { pc } => {
+        Effect::Jump { next_pc } => {
             if rd == 0 {
-                goes_on(0, pc)
+                goes_on(0, next_pc)
             } else {
                 Taken::Other
             }

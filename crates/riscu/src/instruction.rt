@@ -5,24 +5,28 @@
 // The bytes that an instruction takes.
 pub const INSTRUCTION_SIZE: u64 = 4;
 
+// Two source registers and a destination.
 pub struct RType {
     pub rd: usize,
     pub rs1: usize,
     pub rs2: usize,
 }
 
+// A source register, an immediate and a destination.
 pub struct IType {
     pub rd: usize,
     pub rs1: usize,
     pub imm: u64,
 }
 
+// Two source registers and an immediate: a store.
 pub struct SType {
     pub rs1: usize,
     pub rs2: usize,
     pub imm: u64,
 }
 
+// Two source registers and an immediate: a branch.
 pub struct BType {
     pub rs1: usize,
     pub rs2: usize,
@@ -30,16 +34,19 @@ pub struct BType {
     pub word: u32,
 }
 
+// An immediate of the upper bits and a destination.
 pub struct UType {
     pub rd: usize,
     pub imm: u64,
 }
 
+// A jump's immediate and a destination.
 pub struct JType {
     pub rd: usize,
     pub imm: u64,
 }
 
+// By the manual's names.
 pub enum Instruction {
     Lui(UType),
     Jal(JType),

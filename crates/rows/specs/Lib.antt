@@ -1,3 +1,3 @@
+pub mod Limits
 pub mod Rows
-pub mod Execution
 pub mod Valid

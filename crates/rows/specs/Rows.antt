@@ -4,9 +4,9 @@
 use mathlib.Core.List.{List}
 use Prim.Native.Nat.{ℕ, _+_, _-_, _≤_}
 use lib.ListN.{length, getD, set, drop, replicate}
-use Rattle.effects.specs.Values.{valueAt}
-use Rattle.effects.specs.declared.value.Value.{Value}
-use Rattle.effects.specs.declared.value.Value.the-variants.{Concrete, Uninitialized}
+use Rattle.values.specs.Values.{registerCount, valueAt}
+use Rattle.values.specs.declared.Value.{Value}
+use Rattle.values.specs.declared.Value.the-variants.{Concrete, Uninitialized}
 
 pub record Row : Type 0 where
   pub words : List ℕ
@@ -25,19 +25,23 @@ header = 5
 
 -- how many words and marks a row of W memory words and L log words has
 abbrev pub rowWords : ℕ → ℕ → ℕ
-rowWords w l = header + 32 + w + l
+rowWords w l = header + registerCount + w + l
 
 abbrev pub rowMarks : ℕ → ℕ
-rowMarks w = 32 + w
+rowMarks w = registerCount + w
 
--- what the lengths of a row's lists allow: 32 registers, and a word for each mark
+-- what the lengths of a row's lists allow: all registers, and a word for each mark
 pub record Shape (words marks : List ℕ) : Type 0 where
-  pub registers : 32 ≤ length marks
+  pub registers : registerCount ≤ length marks
   pub slots : length marks + header ≤ length words
+
+-- W, of a row's marks
+abbrev pub memoryIn : List ℕ → ℕ
+memoryIn marks = length marks - registerCount
 
 -- W, the place of the first log word, and L
 abbrev pub memoryWords : Row → ℕ
-memoryWords r = length (r .marks) - 32
+memoryWords r = memoryIn (r .marks)
 
 abbrev pub logStart : Row → ℕ
 logStart r = length (r .marks) + header
@@ -83,7 +87,7 @@ abbrev pub slotAt : Row → ℕ → Value
 slotAt r n = valueAt (drop header (r .words)) (r .marks) n
 
 abbrev pub memoryAt : Row → ℕ → Value
-memoryAt r m = slotAt r (32 + m)
+memoryAt r m = slotAt r (registerCount + m)
 
 -- how a value is stored: an uninitialised one as word 0 with mark 0
 abbrev pub wordOf : Value → ℕ
@@ -98,4 +102,4 @@ abbrev pub setSlot : ℕ → Value → Row → Row
 setSlot n v r = row (set (r .words) (header + n) (wordOf v)) (set (r .marks) n (markOf v))
 
 abbrev pub setMemory : ℕ → Value → Row → Row
-setMemory m v r = setSlot (32 + m) v r
+setMemory m v r = setSlot (registerCount + m) v r

@@ -2,6 +2,7 @@
 ghost use mathlib.Core.Path.{_≡_};
 ghost use lib.ListN.{length, replicate};
 
+// Sets all words to zero.
 pub fn clear_words(words: &mut [u64])
     ensures { λ _. ⌜ now (words .exit) ≡ replicate (length (now (words .entry))) 0 ⌝ }
 {
@@ -12,6 +13,7 @@ pub fn clear_words(words: &mut [u64])
     }
 }
 
+// Sets all marks to zero.
 pub fn clear_marks(marks: &mut [u8])
     ensures { λ _. ⌜ now (marks .exit) ≡ replicate (length (now (marks .entry))) 0 ⌝ }
 {

@@ -1,4 +1,4 @@
 // The row of one executor, lent as two slices: its words and its marks. For the layers above.
 pub mod clear;
-pub mod execute;
+pub mod limits;
 pub mod row;

@@ -19,6 +19,7 @@ use rarity::are_ordered;
 use rarity::score_rows;
 use store::layout::Layout;
 
+// What scoring answers.
 pub enum ScoringAnswer {
     Scored,
     // The Rust's `expect`: scores that cannot be ordered.
@@ -27,6 +28,7 @@ pub enum ScoringAnswer {
 }
 
 impl ScoringAnswer {
+    // Document 01's number.
     pub fn number(self) -> u64
         ensures { λ r. ⌜ r ≡ scoringNumber self ⌝ }
     {

@@ -20,11 +20,8 @@ abbrev μ-loop : tie.MeasureT-loop
 loop-holds : tie.Need-loop-holds Inv-loop μ-loop
 loop-holds c = (c .before .before .before .pre .0, refl, refl, omega arith, refl)
 
-add-write-slot : tie.Need-add-write-slot Inv-loop μ-loop
-add-write-slot c = omega (arith, c .before .before .before .before .before .before .before .pre .1 .inside (omega arith), c .before .before .before .loop .inv .2)
-
-add-write-slot-2 : tie.Need-add-write-slot-2 Inv-loop μ-loop
-add-write-slot-2 c = omega (arith, c .before .before .before .before .before .before .before .pre .1 .inside (omega arith), c .before .before .before .loop .inv .2)
+add-write-memory : tie.Need-add-write-memory Inv-loop μ-loop
+add-write-memory c = omega (arith, c .before .before .before .before .before .before .before .pre .1 .inside (omega arith), c .before .before .before .loop .inv .2)
 
 mul-word-at : tie.Need-mul-word-at Inv-loop μ-loop
 mul-word-at c = omega arith
@@ -32,8 +29,8 @@ mul-word-at c = omega arith
 word-at-requires : tie.Need-word-at-requires Inv-loop μ-loop
 word-at-requires c κs = omega arith
 
-write-slot-requires : tie.Need-write-slot-requires Inv-loop μ-loop
-write-slot-requires c κs = (c .before .before .before .before .loop .inv .0, omega (arith, c .before .before .before .before .before .before .before .before .pre .1 .inside (omega arith), c .before .before .before .before .loop .inv .2))
+write-memory-requires : tie.Need-write-memory-requires Inv-loop μ-loop
+write-memory-requires c κs = (c .before .before .before .before .loop .inv .0, omega (arith, c .before .before .before .before .before .before .before .before .pre .1 .inside (omega arith), c .before .before .before .before .loop .inv .2))
 
 add-k : tie.Need-add-k Inv-loop μ-loop
 add-k c = omega arith
@@ -44,9 +41,9 @@ loop-less c = omega arith
 loop-again : tie.Need-loop-again Inv-loop μ-loop
 loop-again c =
     let l = c .before .before .before .before .before .before .before .before .before .loop in
-    let w = c .before .before .before .before .write-slot .kept .0 in
-    let m = c .before .before .before .before .write-slot .kept .1 .0 in
-    (same-shape (l .words) _ (l .marks) _ w m (l .inv .0), w ∙ l .inv .1, m ∙ l .inv .2, omega arith, load-on _ _ _ _ (row (l .words) (l .marks)) _ _ (c .before .before .before .before .before .before .before .before .loop-test .taken) (c .before .before .before .before .before .word-at .ensures) (c .before .before .before .before .write-slot .ensures) ∙ l .inv .4)
+    let w = c .before .before .before .before .write-memory .kept .0 in
+    let m = c .before .before .before .before .write-memory .kept .1 .0 in
+    (same-shape (l .words) _ (l .marks) _ w m (l .inv .0), w ∙ l .inv .1, m ∙ l .inv .2, omega arith, load-on _ _ _ _ (row (l .words) (l .marks)) _ _ (c .before .before .before .before .before .before .before .before .loop-test .taken) (c .before .before .before .before .before .word-at .ensures) (c .before .before .before .before .write-memory .ensures) ∙ l .inv .4)
 
 same-length : tie.Need-same-length Inv-loop μ-loop
 same-length c = search needs
@@ -65,11 +62,10 @@ load-segment-spec =
     Inv-loop
     μ-loop
     loop-holds
-    add-write-slot
-    add-write-slot-2
+    add-write-memory
     mul-word-at
     word-at-requires
-    write-slot-requires
+    write-memory-requires
     add-k
     loop-less
     loop-again

@@ -1,3 +1,4 @@
+use native.Mathlib.Omega.{arith}
 use borrow.Author.Needs.{needs}
 use Rattle.loader.specs.Loading.{newExecutor}
 use Rattle.loader.proofs.Lengths.{same-shape, same-fit}
@@ -18,7 +19,7 @@ load-program-requires c κs =
     let shape = same-shape (a .words .now) (c .before .before .before .before .before .before .before .before .clear-words .last .0) (a .marks .now) (c .before .before .before .before .clear-marks .last .0) w m (c .before .before .before .before .before .before .before .before .before .before .before .before .before .before .pre .0) in
     let code = same-fit (a .marks .now) (c .before .before .before .before .clear-marks .last .0) _ m (c .before .before .before .before .before .before .before .before .before .before .before .before .before .before .pre .1 .1 .0) in
     let constants = same-fit (a .marks .now) (c .before .before .before .before .clear-marks .last .0) _ m (c .before .before .before .before .before .before .before .before .before .before .before .before .before .before .pre .1 .1 .1) in
-    search needs
+    (shape, (omega (arith, m, c .before .before .before .before .before .before .before .before .before .before .before .before .before .before .pre .1 .0), (code, constants)))
 
 same-length : tie.Need-same-length
 same-length c = search needs

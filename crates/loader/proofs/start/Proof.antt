@@ -1,20 +1,16 @@
 use mathlib.Core.Path.{_≡_}
-use Prim.Native.Nat.{_+_, _-_, _*_, _<_}
-use native.Mathlib.Omega.{arith}
+use Prim.Native.Nat.{_-_, _*_}
 use borrow.Author.Needs.{needs}
-use lib.ListN.{length}
-use Rattle.effects.specs.declared.value.Value.the-variants.{Concrete}
-use Rattle.rows.specs.Rows.{Row, row, memoryWords, setSlot}
+use Rattle.values.specs.declared.Value.the-variants.{Concrete}
+use Rattle.rows.specs.Rows.{Row, row, memoryWords, setSlot, setMemory}
 use Rattle.loader.specs.Loading.{started}
 use Rattle.loader.proofs.start.Statement.{statement}
 use Rattle.loader.proofs.start.Tie as tie
 
 -- the memory word at x2 is the last
-three-writes : (r x y z : Row) → 32 < length (r .marks) → x ≡ setSlot 2 (Concrete (8 * memoryWords r - 8)) r → y ≡ setSlot 0 (Concrete 0) x → z ≡ setSlot (32 + memoryWords r - 1) (Concrete 0) y → z ≡ started r
+three-writes : (r x y z : Row) → x ≡ setSlot 2 (Concrete (8 * memoryWords r - 8)) r → y ≡ setSlot 0 (Concrete 0) x → z ≡ setMemory (memoryWords r - 1) (Concrete 0) y → z ≡ started r
 unfolding started
-three-writes r x y z h e f g =
-    let place : 32 + memoryWords r - 1 ≡ 32 + (memoryWords r - 1) = omega arith in
-    rw (g, f, e, place)
+three-writes r x y z e f g = rw (g, f, e)
 
 sub-memory : tie.Need-sub-memory
 sub-memory c = search needs
@@ -31,14 +27,11 @@ write-slot-requires c κs = search needs
 write-slot-requires-2 : tie.Need-write-slot-requires-2
 write-slot-requires-2 c κs = search needs
 
-add-write-slot : tie.Need-add-write-slot
-add-write-slot c = search needs
+sub-write-memory : tie.Need-sub-write-memory
+sub-write-memory c = search needs
 
-sub-write-slot : tie.Need-sub-write-slot
-sub-write-slot c = search needs
-
-write-slot-requires-3 : tie.Need-write-slot-requires-3
-write-slot-requires-3 c κs = search needs
+write-memory-requires : tie.Need-write-memory-requires
+write-memory-requires c κs = search needs
 
 same-length : tie.Need-same-length
 same-length c = search needs
@@ -47,7 +40,7 @@ same-length-2 : tie.Need-same-length-2
 same-length-2 c = search needs
 
 returns : tie.Need-returns
-returns c = three-writes (row (c .before .before .before .before .before .before .before .before .before .before .before .before .before .before .before .before .before .before .before .before .before .before .before .args .words .now) (c .before .before .before .before .before .before .before .before .before .before .before .before .before .before .before .before .before .before .before .before .before .before .before .args .marks .now)) _ _ _ (c .before .before .before .before .before .before .before .before .before .before .before .before .before .before .before .before .before .before .before .before .before .before .before .pre .1) (c .before .before .before .before .before .before .before .before .before .before .before .before .before .before .before .before .before .before .write-slot .ensures) (c .before .before .before .before .before .before .before .before .before .before .before .write-slot2 .ensures) (c .before .before .before .before .write-slot3 .ensures)
+returns c = three-writes (row (c .before .before .before .before .before .before .before .before .before .before .before .before .before .before .before .before .before .before .before .before .before .before .before .args .words .now) (c .before .before .before .before .before .before .before .before .before .before .before .before .before .before .before .before .before .before .before .before .before .before .before .args .marks .now)) _ _ _ (c .before .before .before .before .before .before .before .before .before .before .before .before .before .before .before .before .before .before .write-slot .ensures) (c .before .before .before .before .before .before .before .before .before .before .before .write-slot2 .ensures) (c .before .before .before .before .write-memory .ensures)
 
 pub start-spec : {M : Type 1} → statement M
 start-spec =
@@ -58,9 +51,8 @@ start-spec =
     sub-t10
     write-slot-requires
     write-slot-requires-2
-    add-write-slot
-    sub-write-slot
-    write-slot-requires-3
+    sub-write-memory
+    write-memory-requires
     same-length
     same-length-2
     returns)

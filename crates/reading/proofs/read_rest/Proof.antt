@@ -11,11 +11,8 @@ returns c = rw (eq-eqb _ _ (c .if1 .taken))
 add-last : tie.Need-add-last
 add-last c = search needs
 
-add-read-slot : tie.Need-add-read-slot
-add-read-slot c = search needs
-
-read-slot-requires : tie.Need-read-slot-requires
-read-slot-requires c κs = search needs
+read-memory-requires : tie.Need-read-memory-requires
+read-memory-requires c κs = search needs
 
 read-tail-requires : tie.Need-read-tail-requires
 read-tail-requires c κs = search needs
@@ -28,7 +25,7 @@ same-length-2 c = search needs
 
 returns-2 : tie.Need-returns-2
 unfolding rest
-returns-2 c = rw (ne-eqb _ _ (c .before .before .before .before .before .before .before .before .before .before .if1 .left), ← c .before .before .before .before .before .before .before .read-slot .ensures) (c .before .before .before .before .read-tail .ensures)
+returns-2 c = rw (ne-eqb _ _ (c .before .before .before .before .before .before .before .before .before .before .if1 .left), ← c .before .before .before .before .before .before .before .read-memory .ensures) (c .before .before .before .before .read-tail .ensures)
 
 pub read-rest-spec : {M : Type 1} → statement M
 read-rest-spec =
@@ -36,8 +33,7 @@ read-rest-spec =
     (tie.spec
     returns
     add-last
-    add-read-slot
-    read-slot-requires
+    read-memory-requires
     read-tail-requires
     same-length
     same-length-2

@@ -2,7 +2,7 @@ use mathlib.Core.Path.{sym, ap, _∙_}
 use Prim.Native.Nat.{_*_}
 use native.Mathlib.Omega.{arith}
 use lib.Pow.{pow-pos}
-use Rattle.reading.specs.Reading.{tail, tailOf, goes}
+use Rattle.reading.specs.Reading.{tail, tailOf, running}
 use Rattle.reading.proofs.Draws.{drawn-room}
 use Rattle.reading.proofs.Tails.{tail-fits}
 use borrow.Author.Needs.{needs}
@@ -60,7 +60,7 @@ same-length-2 c = search needs
 
 returns-2 : tie.Need-returns-2
 unfolding tail tailOf
-returns-2 c = rw (c .before .before .before .before .before .before .before .before .before .before .before .before .before .before .before .word .given .1, ← c .before .before .before .before .before .before .before .before .before .before .before .draw .ensures, c .before .before .before .before .before .before .before .before .before .x .given .1, ← c .before .before .before .before .before .before .before .unit-of .ensures) (ap (goes _) (c .before .before .before .before .«record» .ensures))
+returns-2 c = rw (c .before .before .before .before .before .before .before .before .before .before .before .before .before .before .before .word .given .1, ← c .before .before .before .before .before .before .before .before .before .before .before .draw .ensures, c .before .before .before .before .before .before .before .before .before .x .given .1, ← c .before .before .before .before .before .before .before .unit-of .ensures) (ap (running _) (c .before .before .before .before .«record» .ensures))
 
 same-length-3 : tie.Need-same-length-3
 same-length-3 c = search needs

@@ -1,6 +1,6 @@
 use mathlib.Core.Path.{sym, ap, _∙_}
 use native.Mathlib.Omega.{arith}
-use Rattle.reading.specs.Reading.{fullWord, goes}
+use Rattle.reading.specs.Reading.{fullWord, running}
 use Rattle.reading.proofs.Draws.{drawn-room}
 use borrow.Author.Needs.{needs}
 use Rattle.reading.proofs.read_word.Statement.{statement}
@@ -32,7 +32,7 @@ same-length-2 c = search needs
 
 returns : tie.Need-returns
 unfolding fullWord
-returns c = rw (← c .before .before .before .before .before .before .before .before .before .before .draw .ensures, c .before .before .before .before .before .before .before .before .x .given .1) (ap (goes _) (c .before .before .before .before .«record» .ensures))
+returns c = rw (← c .before .before .before .before .before .before .before .before .before .before .draw .ensures, c .before .before .before .before .before .before .before .before .x .given .1) (ap (running _) (c .before .before .before .before .«record» .ensures))
 
 same-length-3 : tie.Need-same-length-3
 same-length-3 c = search needs

@@ -27,21 +27,18 @@ add-words c = search needs
 slice-write-words-2 : tie.Need-slice-write-words-2
 slice-write-words-2 c = simp length-set (omega arith)
 
-add-write-slot : tie.Need-add-write-slot
-add-write-slot c = search needs
-
-write-slot-requires : tie.Need-write-slot-requires
-write-slot-requires c κs = (record { registers = search needs; slots = simp length-set (omega arith) }, search needs)
+write-memory-requires : tie.Need-write-memory-requires
+write-memory-requires c κs = (record { registers = search needs; slots = simp length-set (omega arith) }, search needs)
 
 same-length : tie.Need-same-length
-same-length c = c .before .before .before .before .write-slot .kept .0 ∙ simp length-set
+same-length c = c .before .before .before .before .write-memory .kept .0 ∙ simp length-set
 
 same-length-2 : tie.Need-same-length-2
 same-length-2 c = search needs
 
 returns : tie.Need-returns
 unfolding recorded
-returns c = c .before .before .before .before .write-slot .ensures
+returns c = c .before .before .before .before .write-memory .ensures
 
 pub record-spec : {M : Type 1} → statement M
 record-spec =
@@ -54,8 +51,7 @@ record-spec =
     slice-write-words
     add-words
     slice-write-words-2
-    add-write-slot
-    write-slot-requires
+    write-memory-requires
     same-length
     same-length-2
     returns)

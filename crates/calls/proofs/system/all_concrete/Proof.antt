@@ -17,14 +17,11 @@ abbrev μ-loop : tie.MeasureT-loop
 loop-holds : tie.Need-loop-holds Inv-loop μ-loop
 loop-holds c = search needs
 
-add-read-slot : tie.Need-add-read-slot Inv-loop μ-loop
-add-read-slot c = search needs
+add-read-memory : tie.Need-add-read-memory Inv-loop μ-loop
+add-read-memory c = search needs
 
-add-read-slot-2 : tie.Need-add-read-slot-2 Inv-loop μ-loop
-add-read-slot-2 c = search needs
-
-read-slot-requires : tie.Need-read-slot-requires Inv-loop μ-loop
-read-slot-requires c κs = search needs
+read-memory-requires : tie.Need-read-memory-requires Inv-loop μ-loop
+read-memory-requires c κs = search needs
 
 enum-told : tie.Need-enum-told Inv-loop μ-loop
 enum-told c = search needs
@@ -33,7 +30,7 @@ enum-told-2 : tie.Need-enum-told-2 Inv-loop μ-loop
 enum-told-2 c = search needs
 
 returns : tie.Need-returns Inv-loop μ-loop
-returns c = one-missing _ _ _ _ _ (c .before .before .before .loop-test .taken) (c .before .before .read-slot .ensures) (c .enum-told2 .given .1) ∙ c .before .before .before .before .loop .inv .1 ∙ from-first _ _ _
+returns c = one-missing _ _ _ _ _ (c .before .before .before .loop-test .taken) (c .before .before .read-memory .ensures) (c .enum-told2 .given .1) ∙ c .before .before .before .before .loop .inv .1 ∙ from-first _ _ _
 
 add-k : tie.Need-add-k Inv-loop μ-loop
 add-k c = search needs
@@ -42,7 +39,7 @@ loop-less : tie.Need-loop-less Inv-loop μ-loop
 loop-less c = search needs
 
 loop-again : tie.Need-loop-again Inv-loop μ-loop
-loop-again c = (search needs, one-passed _ _ _ _ _ _ (c .before .before .before .loop-test .taken) (c .before .before .read-slot .ensures) (c .enum-told .given .1) ∙ c .before .before .before .before .loop .inv .1)
+loop-again c = (search needs, one-passed _ _ _ _ _ _ (c .before .before .before .loop-test .taken) (c .before .before .read-memory .ensures) (c .enum-told .given .1) ∙ c .before .before .before .before .loop .inv .1)
 
 returns-2 : tie.Need-returns-2 Inv-loop μ-loop
 returns-2 c = all-passed _ _ _ _ (c .loop-test .left) ∙ c .before .loop .inv .1 ∙ from-first _ _ _
@@ -54,9 +51,8 @@ all-concrete-spec =
     Inv-loop
     μ-loop
     loop-holds
-    add-read-slot
-    add-read-slot-2
-    read-slot-requires
+    add-read-memory
+    read-memory-requires
     enum-told
     enum-told-2
     returns

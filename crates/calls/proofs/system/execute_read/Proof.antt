@@ -1,5 +1,5 @@
 use Rattle.calls.specs.Calls.{read}
-use Rattle.calls.proofs.Ranges.{transfer-within}
+use Rattle.calls.proofs.Ranges.{transfer-in-memory}
 use borrow.Author.Needs.{needs}
 use Rattle.calls.proofs.system.execute_read.Statement.{statement}
 use Rattle.calls.proofs.system.execute_read.Tie as tie
@@ -8,7 +8,7 @@ transfer-of-requires : tie.Need-transfer-of-requires
 transfer-of-requires c κs = search needs
 
 read-to-requires : tie.Need-read-to-requires
-read-to-requires c κs = (c .before .before .before .before .before .before .before .before .pre, rw (c .before .before .transfer-of .ensures) (transfer-within _ _ _))
+read-to-requires c κs = (c .before .before .before .before .before .before .before .before .pre, rw (c .before .before .transfer-of .ensures) (transfer-in-memory _ _ _))
 
 same-length : tie.Need-same-length
 same-length c = search needs

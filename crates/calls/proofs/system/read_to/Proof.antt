@@ -1,5 +1,5 @@
 use mathlib.Core.Path.{ap}
-use Rattle.reading.specs.Reading.{goes, onwards}
+use Rattle.reading.specs.Reading.{running, onwards}
 use Rattle.calls.specs.Calls.{readTo}
 use native.Mathlib.Omega.{arith}
 use borrow.Author.Needs.{needs}
@@ -32,7 +32,7 @@ same-length-2 c = search needs
 
 returns : tie.Need-returns
 unfolding readTo onwards
-returns c = rw (c .before .before .before .before .before .before .before .before .before .before .before .before .before .before .before .before .before .to .given .1, ← c .before .before .before .before .before .before .before .before .before .before .before .before .before .read-bytes .ensures, c .before .before .before .before .before .before .before .enum-told .given .1) (ap (goes _) (c .before .before .before .before .write-slot .ensures))
+returns c = rw (c .before .before .before .before .before .before .before .before .before .before .before .before .before .before .before .before .before .to .given .1, ← c .before .before .before .before .before .before .before .before .before .before .before .before .before .read-bytes .ensures, c .before .before .before .before .before .before .before .enum-told .given .1) (ap (running _) (c .before .before .before .before .write-slot .ensures))
 
 same-length-3 : tie.Need-same-length-3
 same-length-3 c = search needs

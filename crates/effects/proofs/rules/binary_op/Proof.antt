@@ -32,15 +32,15 @@ returns-2 c = rw (c .missing-operand2 .ensures, c .before .enum-told2 .given .1,
 operate-requires : tie.Need-operate-requires
 operate-requires c κs = search needs
 
-next-requires : tie.Need-next-requires
-next-requires c κs = search needs
+following-requires : tie.Need-following-requires
+following-requires c κs = search needs
 
 assign-rd-requires : tie.Need-assign-rd-requires
 assign-rd-requires c κs = search needs
 
 returns-3 : tie.Need-returns-3
 unfolding binaryOp
-returns-3 c = rw (c .assign-rd .ensures, c .before .next .ensures, c .before .before .operate .ensures, c .before .before .before .before .b .given .1, c .before .before .before .before .before .before .before .a .given .1)
+returns-3 c = rw (c .assign-rd .ensures, c .before .following .ensures, c .before .before .operate .ensures, c .before .before .before .before .b .given .1, c .before .before .before .before .before .before .before .a .given .1)
 
 pub binary-op-spec : {M : Type 1} → statement M
 binary-op-spec =
@@ -55,6 +55,6 @@ binary-op-spec =
     missing-operand-requires-2
     returns-2
     operate-requires
-    next-requires
+    following-requires
     assign-rd-requires
     returns-3)

@@ -16,8 +16,8 @@ returns : tie.Need-returns
 unfolding jalr
 returns c = rw (c .not-supported .ensures, c .before .enum-told .given .1)
 
-next-requires : tie.Need-next-requires
-next-requires c κs = search needs
+following-requires : tie.Need-following-requires
+following-requires c κs = search needs
 
 wrapping-add-u64-requires : tie.Need-wrapping-add-u64-requires
 wrapping-add-u64-requires c κs = search needs
@@ -27,7 +27,7 @@ assign-rd-requires c κs = search needs
 
 returns-2 : tie.Need-returns-2
 unfolding jalr
-returns-2 c = rw (c .assign-rd .ensures, c .before .wrapping-add-u64 .ensures, c .before .before .next .ensures, c .before .before .before .before .a .given .1)
+returns-2 c = rw (c .assign-rd .ensures, c .before .wrapping-add-u64 .ensures, c .before .before .following .ensures, c .before .before .before .before .a .given .1)
 
 pub jalr-spec : {M : Type 1} → statement M
 jalr-spec =
@@ -37,7 +37,7 @@ jalr-spec =
     enum-told
     not-supported-requires
     returns
-    next-requires
+    following-requires
     wrapping-add-u64-requires
     assign-rd-requires
     returns-2)

@@ -19,15 +19,15 @@ returns c = rw (c .not-supported .ensures, c .before .enum-told .given .1)
 wrapping-add-u64-requires : tie.Need-wrapping-add-u64-requires
 wrapping-add-u64-requires c κs = search needs
 
-next-requires : tie.Need-next-requires
-next-requires c κs = search needs
+following-requires : tie.Need-following-requires
+following-requires c κs = search needs
 
 load-from-requires : tie.Need-load-from-requires
 load-from-requires c κs = search needs
 
 returns-2 : tie.Need-returns-2
 unfolding ld
-returns-2 c = rw (c .load-from .ensures, c .before .next .ensures, c .before .before .wrapping-add-u64 .ensures, c .before .before .before .before .a .given .1)
+returns-2 c = rw (c .load-from .ensures, c .before .following .ensures, c .before .before .wrapping-add-u64 .ensures, c .before .before .before .before .a .given .1)
 
 pub ld-spec : {M : Type 1} → statement M
 ld-spec =
@@ -38,6 +38,6 @@ ld-spec =
     not-supported-requires
     returns
     wrapping-add-u64-requires
-    next-requires
+    following-requires
     load-from-requires
     returns-2)

@@ -12,7 +12,7 @@ use Rattle.riscu.proofs.Registers.{decoded-registers}
 use Rattle.answers.specs.declared.error.ExecutorError.the-variants.{InvalidInstructionEncoding}
 use Rattle.answers.specs.declared.outcome.Outcome.the-variants.{Failed}
 use Rattle.rows.specs.Rows.{row, Shape, depthOf}
-use Rattle.reading.specs.Reading.{Reached, reached, ends}
+use Rattle.reading.specs.Reading.{Reached, reached, ended}
 use Rattle.machine.specs.Steps.{deeper, advanced}
 use Rattle.machine.specs.Runs.{runFor}
 use Rattle.machine.proofs.Known.{Faithful, Looked, nothing-known, found, learnt}
@@ -83,7 +83,7 @@ same-length-4 : tie.Need-same-length-4 Inv-loop μ-loop
 same-length-4 c = search needs
 
 returns-2 : tie.Need-returns-2 Inv-loop μ-loop
-returns-2 c = rw (c .failed .ensures, c .before .before .before .before .before .before .before .before .before .before .fetch-next .ensures .1) (stopped _ _ _ (row (c .before .before .before .before .before .before .before .before .before .before .before .before .before .before .before .before .loop .words) (c .before .before .before .before .before .before .before .before .before .before .before .before .before .before .before .before .loop .marks)) (ends (Failed InvalidInstructionEncoding) (c .before .before .before .before .before .before .before .before .before .before .before .before .before .before .before .before .loop .at) (deeper (row (c .before .before .before .before .before .before .before .before .before .before .before .before .before .before .before .before .loop .words) (c .before .before .before .before .before .before .before .before .before .before .before .before .before .before .before .before .loop .marks)))) (omega arith) (by-invalid _ _ (row (c .before .before .before .before .before .before .before .before .before .before .before .before .before .before .before .before .loop .words) (c .before .before .before .before .before .before .before .before .before .before .before .before .before .before .before .before .loop .marks)) _ (sym (c .before .before .before .before .before .before .word .given .1) ∙ c .before .before .before .before .before .before .before .before .before .before .fetch-next .ensures .0) (sym (c .before .enum-told .given .1) ∙ c .before .before .before .decode .ensures)) _ refl ∙ c .before .before .before .before .before .before .before .before .before .before .before .before .before .before .before .before .loop .inv .3)
+returns-2 c = rw (c .failed .ensures, c .before .before .before .before .before .before .before .before .before .before .fetch-next .ensures .1) (stopped _ _ _ (row (c .before .before .before .before .before .before .before .before .before .before .before .before .before .before .before .before .loop .words) (c .before .before .before .before .before .before .before .before .before .before .before .before .before .before .before .before .loop .marks)) (ended (Failed InvalidInstructionEncoding) (c .before .before .before .before .before .before .before .before .before .before .before .before .before .before .before .before .loop .at) (deeper (row (c .before .before .before .before .before .before .before .before .before .before .before .before .before .before .before .before .loop .words) (c .before .before .before .before .before .before .before .before .before .before .before .before .before .before .before .before .loop .marks)))) (omega arith) (by-invalid _ _ (row (c .before .before .before .before .before .before .before .before .before .before .before .before .before .before .before .before .loop .words) (c .before .before .before .before .before .before .before .before .before .before .before .before .before .before .before .before .loop .marks)) _ (sym (c .before .before .before .before .before .before .word .given .1) ∙ c .before .before .before .before .before .before .before .before .before .before .fetch-next .ensures .0) (sym (c .before .enum-told .given .1) ∙ c .before .before .before .decode .ensures)) _ refl ∙ c .before .before .before .before .before .before .before .before .before .before .before .before .before .before .before .before .loop .inv .3)
 
 mul-known : tie.Need-mul-known Inv-loop μ-loop
 mul-known c = search needs
@@ -154,7 +154,7 @@ same-length-8 : tie.Need-same-length-8 Inv-loop μ-loop
 same-length-8 c = search needs
 
 returns-4 : tie.Need-returns-4 Inv-loop μ-loop
-returns-4 c = rw (c .failed2 .ensures, c .before .before .before .before .before .before .fetch-next .ensures .1) (stopped _ _ _ (row (c .before .before .before .before .before .before .before .before .before .before .before .before .loop .words) (c .before .before .before .before .before .before .before .before .before .before .before .before .loop .marks)) (ends (Failed _) (c .before .before .before .before .before .before .before .before .before .before .before .before .loop .at) (deeper (row (c .before .before .before .before .before .before .before .before .before .before .before .before .loop .words) (c .before .before .before .before .before .before .before .before .before .before .before .before .loop .marks)))) (omega arith) (by-refusal _ _ (row (c .before .before .before .before .before .before .before .before .before .before .before .before .loop .words) (c .before .before .before .before .before .before .before .before .before .before .before .before .loop .marks)) _ (sym (c .before .before .error .given .1) ∙ c .before .before .before .before .before .before .fetch-next .ensures .0)) _ refl ∙ c .before .before .before .before .before .before .before .before .before .before .before .before .loop .inv .3)
+returns-4 c = rw (c .failed2 .ensures, c .before .before .before .before .before .before .fetch-next .ensures .1) (stopped _ _ _ (row (c .before .before .before .before .before .before .before .before .before .before .before .before .loop .words) (c .before .before .before .before .before .before .before .before .before .before .before .before .loop .marks)) (ended (Failed _) (c .before .before .before .before .before .before .before .before .before .before .before .before .loop .at) (deeper (row (c .before .before .before .before .before .before .before .before .before .before .before .before .loop .words) (c .before .before .before .before .before .before .before .before .before .before .before .before .loop .marks)))) (omega arith) (by-refusal _ _ (row (c .before .before .before .before .before .before .before .before .before .before .before .before .loop .words) (c .before .before .before .before .before .before .before .before .before .before .before .before .loop .marks)) _ (sym (c .before .before .error .given .1) ∙ c .before .before .before .before .before .before .fetch-next .ensures .0)) _ refl ∙ c .before .before .before .before .before .before .before .before .before .before .before .before .loop .inv .3)
 
 pub run-to-spec : {M : Type 1} → statement M
 run-to-spec =

@@ -9,8 +9,8 @@ execute-requires c κs = search needs
 follow-requires : tie.Need-follow-requires
 follow-requires c κs = search needs
 
-finish-requires : tie.Need-finish-requires
-finish-requires c κs = search needs
+settle-requires : tie.Need-settle-requires
+settle-requires c κs = search needs
 
 same-length : tie.Need-same-length
 same-length c = search needs
@@ -20,9 +20,9 @@ same-length-2 c = search needs
 
 returns : tie.Need-returns
 unfolding executed
-returns c = rw (← c .before .before .before .before .before .before .before .before .before .before .before .before .before .before .before .before .before .before .execute .ensures .0, ← c .before .before .before .before .before .before .before .before .before .before .before .before .before .before .before .before .before .before .execute .ensures .1, ← c .before .before .before .before .before .before .before .before .before .before .before .follow .ensures) (c .before .before .before .before .finish .ensures)
+returns c = rw (← c .before .before .before .before .before .before .before .before .before .before .before .before .before .before .before .before .before .before .execute .ensures .0, ← c .before .before .before .before .before .before .before .before .before .before .before .before .before .before .before .before .before .before .execute .ensures .1, ← c .before .before .before .before .before .before .before .before .before .before .before .follow .ensures) (c .before .before .before .before .settle .ensures)
 
 pub advance-spec : {M : Type 1} → statement M
 advance-spec =
     tie.close
-    (tie.spec execute-requires follow-requires finish-requires same-length same-length-2 returns)
+    (tie.spec execute-requires follow-requires settle-requires same-length same-length-2 returns)

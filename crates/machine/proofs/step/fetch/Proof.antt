@@ -10,18 +10,15 @@ shared-slice-read-pc c = search needs
 sub-if1 : tie.Need-sub-if1
 sub-if1 c = search needs
 
-add-read-slot : tie.Need-add-read-slot
-add-read-slot c = search needs
-
-read-slot-requires : tie.Need-read-slot-requires
-read-slot-requires c κs = search needs
+read-memory-requires : tie.Need-read-memory-requires
+read-memory-requires c κs = search needs
 
 half-at-requires : tie.Need-half-at-requires
 half-at-requires c κs = search needs
 
 returns : tie.Need-returns
 unfolding fetched
-returns c = rw (lt-ltb _ _ (c .before .before .if1 .taken), ← c .before .read-slot .ensures) (c .half-at .ensures)
+returns c = rw (lt-ltb _ _ (c .before .before .if1 .taken), ← c .before .read-memory .ensures) (c .half-at .ensures)
 
 returns-2 : tie.Need-returns-2
 unfolding fetched
@@ -33,8 +30,7 @@ fetch-spec =
     (tie.spec
     shared-slice-read-pc
     sub-if1
-    add-read-slot
-    read-slot-requires
+    read-memory-requires
     half-at-requires
     returns
     returns-2)

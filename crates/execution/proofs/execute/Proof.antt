@@ -1,9 +1,9 @@
 use borrow.Author.Needs.{needs}
 use Rattle.effects.proofs.Reach.{in-reach}
-use Rattle.rows.specs.Execution.{effectIn}
+use Rattle.execution.specs.Execution.{effectIn}
 use Rattle.rows.proofs.Parts.{to-end}
-use Rattle.rows.proofs.execute.execute.Statement.{statement}
-use Rattle.rows.proofs.execute.execute.Tie as tie
+use Rattle.execution.proofs.execute.Statement.{statement}
+use Rattle.execution.proofs.execute.Tie as tie
 
 slice-read-pc : tie.Need-slice-read-pc
 slice-read-pc c = search needs

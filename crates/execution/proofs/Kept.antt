@@ -4,11 +4,12 @@ use Prim.Native.Nat.{ℕ, _+_, _<_}
 use native.Mathlib.Omega.{arith}
 use lib.ListN.{length, getD, length-set}
 use lib.Seq.{getD-set-other}
-use Rattle.effects.specs.declared.value.Value.{Value}
+use Rattle.values.specs.Values.{registerCount}
+use Rattle.values.specs.declared.Value.{Value}
 use Rattle.effects.specs.declared.effect.Effect.{Effect}
 use Rattle.effects.specs.declared.effect.Effect.the-variants as effect
 use Rattle.rows.specs.Rows.{Row, setWord, setPc, setSlot, memoryAt, wordOf, markOf, header}
-use Rattle.rows.specs.Execution.{applied}
+use Rattle.execution.specs.Execution.{applied}
 
 -- a word of a row is untouched by a store to another place, and the words before the slots by a store to a slot
 pub word-kept : (r : Row) (i j x : ℕ) → (i ≡ j → ⊥) → getD (setWord j x r .words) i 0 ≡ getD (r .words) i 0
@@ -23,7 +24,7 @@ module _ (A : Type 0) (f : Row → A) (pc-kept : (r : Row) (x : ℕ) → f (setP
   unfolding applied
   applied-kept (effect.Assign rd v pc) r = pc-kept (setSlot rd v r) pc ∙ slot-kept r rd v
   applied-kept (effect.Load rd m pc) r = pc-kept (setSlot rd (memoryAt r m) r) pc ∙ slot-kept r rd (memoryAt r m)
-  applied-kept (effect.Store m v pc) r = pc-kept (setSlot (32 + m) v r) pc ∙ slot-kept r (32 + m) v
+  applied-kept (effect.Store m v pc) r = pc-kept (setSlot (registerCount + m) v r) pc ∙ slot-kept r (registerCount + m) v
   applied-kept (effect.Jump pc) r = pc-kept r pc
   applied-kept effect.Call r = refl
   applied-kept (effect.End outcome) r = refl

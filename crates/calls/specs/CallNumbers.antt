@@ -2,8 +2,8 @@
 use mathlib.Core.Bool.{cond}
 use Prim.Native.Nat.{ℕ}
 use lib.Dec.{eqb}
-use Rattle.effects.specs.declared.system.SyscallId.{SyscallId}
-use Rattle.effects.specs.declared.system.SyscallId.the-variants.{Exit, Read, Write, Brk, Unknown}
+use Rattle.calls.specs.declared.number.SyscallId.{SyscallId}
+use Rattle.calls.specs.declared.number.SyscallId.the-variants.{Exit, Read, Write, Brk, Unknown}
 
 -- all 64 bits of a7 count
 unfoldable pub syscallId : ℕ → SyscallId

@@ -1,10 +1,10 @@
 use borrow.Author.Needs.{needs}
 use mathlib.Core.Path.{refl, ap}
 use native.Mathlib.Omega.{arith}
 use Rattle.rows.specs.Rows.{setPc}
-use Rattle.rows.specs.Execution.{applied}
-use Rattle.rows.proofs.execute.apply.Statement.{statement}
-use Rattle.rows.proofs.execute.apply.Tie as tie
+use Rattle.execution.specs.Execution.{applied}
+use Rattle.execution.proofs.apply.Statement.{statement}
+use Rattle.execution.proofs.apply.Tie as tie
 
 enum-known-effect : tie.Need-enum-known-effect
 enum-known-effect c = search needs
@@ -18,11 +18,8 @@ slice-write-words c = search needs
 enum-known-effect-2 : tie.Need-enum-known-effect-2
 enum-known-effect-2 c = search needs
 
-add-read-slot : tie.Need-add-read-slot
-add-read-slot c = let h = rw (c .before .before .before .effect2 .given .1) at (c .before .before .before .before .before .before .before .pre .1) in omega arith
-
-read-slot-requires : tie.Need-read-slot-requires
-read-slot-requires c κs = let h = rw (c .before .before .before .effect2 .given .1) at (c .before .before .before .before .before .before .before .pre .1) in (c .before .before .before .before .before .before .before .pre .0, omega (arith, c .before .before .before .before .before .before .before .pre .0 .registers))
+read-memory-requires : tie.Need-read-memory-requires
+read-memory-requires c κs = let h = rw (c .before .before .before .effect2 .given .1) at (c .before .before .before .before .before .before .before .pre .1) in (c .before .before .before .before .before .before .before .pre .0, omega (arith, c .before .before .before .before .before .before .before .pre .0 .registers))
 
 write-slot-requires-2 : tie.Need-write-slot-requires-2
 write-slot-requires-2 c κs = let h = rw (c .before .before .before .before .before .before .effect2 .given .1) at (c .before .before .before .before .before .before .before .before .before .before .pre .1) in (c .before .before .before .before .before .before .before .before .before .before .pre .0, omega (arith, c .before .before .before .before .before .before .before .before .before .before .pre .0 .registers))
@@ -33,11 +30,8 @@ slice-write-words-2 c = search needs
 enum-known-effect-3 : tie.Need-enum-known-effect-3
 enum-known-effect-3 c = search needs
 
-add-write-slot : tie.Need-add-write-slot
-add-write-slot c = let h = rw (c .before .before .before .effect3 .given .1) at (c .before .before .before .before .before .before .before .pre .1) in omega arith
-
-write-slot-requires-3 : tie.Need-write-slot-requires-3
-write-slot-requires-3 c κs = let h = rw (c .before .before .before .effect3 .given .1) at (c .before .before .before .before .before .before .before .pre .1) in (c .before .before .before .before .before .before .before .pre .0, omega (arith, c .before .before .before .before .before .before .before .pre .0 .registers))
+write-memory-requires : tie.Need-write-memory-requires
+write-memory-requires c κs = let h = rw (c .before .before .before .effect3 .given .1) at (c .before .before .before .before .before .before .before .pre .1) in (c .before .before .before .before .before .before .before .pre .0, omega (arith, c .before .before .before .before .before .before .before .pre .0 .registers))
 
 slice-write-words-3 : tie.Need-slice-write-words-3
 slice-write-words-3 c = search needs
@@ -72,7 +66,7 @@ same-length-4 c = search needs
 
 returns-2 : tie.Need-returns-2
 unfolding applied
-returns-2 c = rw (c .before .before .before .before .before .before .before .before .before .before .before .effect2 .given .1) (refl, ap (setPc _) (rw (c .before .before .before .before .before .before .before .read-slot .ensures) at (c .before .before .before .before .write-slot2 .ensures)))
+returns-2 c = rw (c .before .before .before .before .before .before .before .before .before .before .before .effect2 .given .1) (refl, ap (setPc _) (rw (c .before .before .before .before .before .before .before .read-memory .ensures) at (c .before .before .before .before .write-slot2 .ensures)))
 
 same-length-5 : tie.Need-same-length-5
 same-length-5 c = search needs
@@ -82,7 +76,7 @@ same-length-6 c = search needs
 
 returns-3 : tie.Need-returns-3
 unfolding applied
-returns-3 c = rw (c .before .before .before .before .before .before .before .before .effect3 .given .1) (refl, ap (setPc _) (c .before .before .before .before .write-slot3 .ensures))
+returns-3 c = rw (c .before .before .before .before .before .before .before .before .effect3 .given .1) (refl, ap (setPc _) (c .before .before .before .before .write-memory .ensures))
 
 same-length-7 : tie.Need-same-length-7
 same-length-7 c = search needs
@@ -107,13 +101,11 @@ apply-spec =
     write-slot-requires
     slice-write-words
     enum-known-effect-2
-    add-read-slot
-    read-slot-requires
+    read-memory-requires
     write-slot-requires-2
     slice-write-words-2
     enum-known-effect-3
-    add-write-slot
-    write-slot-requires-3
+    write-memory-requires
     slice-write-words-3
     enum-known-effect-4
     slice-write-words-4

@@ -1,8 +1,8 @@
 use borrow.Author.Needs.{needs}
 use borrow.Author.Tests.{eq-eqb, ne-eqb}
-use Rattle.effects.specs.Values.{valueAt}
-use Rattle.effects.proofs.value.value_at.Statement.{statement}
-use Rattle.effects.proofs.value.value_at.Tie as tie
+use Rattle.values.specs.Values.{valueAt}
+use Rattle.values.proofs.value_at.Statement.{statement}
+use Rattle.values.proofs.value_at.Tie as tie
 
 shared-slice-read-if1 : tie.Need-shared-slice-read-if1
 shared-slice-read-if1 c = search needs

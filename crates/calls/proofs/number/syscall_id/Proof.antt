@@ -1,7 +1,7 @@
 use borrow.Author.Tests.{ne-eqb}
-use Rattle.effects.specs.System.{syscallId}
-use Rattle.effects.proofs.system.syscall_id.Statement.{statement}
-use Rattle.effects.proofs.system.syscall_id.Tie as tie
+use Rattle.calls.specs.CallNumbers.{syscallId}
+use Rattle.calls.proofs.number.syscall_id.Statement.{statement}
+use Rattle.calls.proofs.number.syscall_id.Tie as tie
 
 returns : tie.Need-returns
 unfolding syscallId

@@ -1,7 +1,7 @@
 use borrow.Author.Needs.{needs}
-use Rattle.machine.specs.Steps.{finished}
-use Rattle.machine.proofs.step.finish.Statement.{statement}
-use Rattle.machine.proofs.step.finish.Tie as tie
+use Rattle.machine.specs.Steps.{settled}
+use Rattle.machine.proofs.step.settle.Statement.{statement}
+use Rattle.machine.proofs.step.settle.Tie as tie
 
 enum-told : tie.Need-enum-told
 enum-told c = search needs
@@ -16,7 +16,7 @@ enum-known-step-2 : tie.Need-enum-known-step-2
 enum-known-step-2 c = search needs
 
 returns : tie.Need-returns
-unfolding finished
+unfolding settled
 returns c = rw (c .enum-told .given .1)
 
 same-length : tie.Need-same-length
@@ -26,15 +26,15 @@ same-length-2 : tie.Need-same-length-2
 same-length-2 c = search needs
 
 returns-2 : tie.Need-returns-2
-unfolding finished
+unfolding settled
 returns-2 c = rw (c .before .before .before .before .before .before .before .before .step .given .1, ← c .before .before .before .before .complete-write .ensures)
 
 returns-3 : tie.Need-returns-3
-unfolding finished
+unfolding settled
 returns-3 c = rw (c .before .step2 .given .1)
 
-pub finish-spec : {M : Type 1} → statement M
-finish-spec =
+pub settle-spec : {M : Type 1} → statement M
+settle-spec =
     tie.close
     (tie.spec
     enum-told

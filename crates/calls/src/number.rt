@@ -1,7 +1,8 @@
 // The system calls (the Rust's system.rs), by the number in a7.
 ghost use mathlib.Core.Path.{_≡_};
-ghost use Rattle.effects.specs.System.{syscallId};
+ghost use Rattle.calls.specs.CallNumbers.{syscallId};
 
+// The calls that there are.
 pub enum SyscallId {
     Exit,
     Read,
@@ -10,6 +11,7 @@ pub enum SyscallId {
     Unknown,
 }
 
+// The call of a number; all 64 bits count.
 pub fn syscall_id(a7: u64) -> SyscallId
     ensures { λ r. ⌜ r ≡ syscallId a7 ⌝ }
 {
