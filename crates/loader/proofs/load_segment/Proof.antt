@@ -1,9 +1,9 @@
 use mathlib.Core.Path.{_≡_, refl, _∙_}
-use Prim.Native.Nat.{_-_, _≤_}
+use Prim.Native.Nat.{_+_, _-_, _/_, _<_, _≤_}
 use native.Mathlib.Omega.{arith}
 use borrow.Author.Needs.{needs}
 use lib.ListN.{length}
-use Rattle.rows.specs.Rows.{row, Shape}
+use Rattle.rows.specs.Rows.{row, Shape, memoryIn}
 use Rattle.loader.specs.Loading.{loadedFrom, loaded}
 use Rattle.loader.proofs.Lengths.{same-shape}
 use Rattle.loader.proofs.Segments.{load-on, load-all, load-none}
@@ -17,11 +17,22 @@ Inv-loop words₀ marks₀ address bytes n m k₀ words marks k = (Shape words m
 abbrev μ-loop : tie.MeasureT-loop
 μ-loop words₀ marks₀ address bytes n m k₀ words marks k = n - k
 
+-- ---- the places that the answers look back to
+abbrev Write : Type 0
+Write = tie.After-write-memory-arg2 Inv-loop μ-loop
+
+abbrev turn : Write → tie.At-loop Inv-loop μ-loop
+turn w = w .before .before .before
+
+-- the word that is written is in memory
+inside : (w : Write) → turn w .before .before .before .before .args .address / 8 + turn w .loop .k < memoryIn (turn w .loop .marks)
+inside w = omega (arith, turn w .before .before .before .before .pre .1 .inside (omega arith), turn w .loop .inv .2)
+
 loop-holds : tie.Need-loop-holds Inv-loop μ-loop
 loop-holds c = (c .before .before .before .pre .0, refl, refl, omega arith, refl)
 
 add-write-memory : tie.Need-add-write-memory Inv-loop μ-loop
-add-write-memory c = omega (arith, c .before .before .before .before .before .before .before .pre .1 .inside (omega arith), c .before .before .before .loop .inv .2)
+add-write-memory c = omega (arith, inside c)
 
 mul-word-at : tie.Need-mul-word-at Inv-loop μ-loop
 mul-word-at c = omega arith
@@ -30,7 +41,7 @@ word-at-requires : tie.Need-word-at-requires Inv-loop μ-loop
 word-at-requires c κs = omega arith
 
 write-memory-requires : tie.Need-write-memory-requires Inv-loop μ-loop
-write-memory-requires c κs = (c .before .before .before .before .loop .inv .0, omega (arith, c .before .before .before .before .before .before .before .before .pre .1 .inside (omega arith), c .before .before .before .before .loop .inv .2))
+write-memory-requires c κs = (turn (c .before) .loop .inv .0, omega (arith, inside (c .before)))
 
 add-k : tie.Need-add-k Inv-loop μ-loop
 add-k c = omega arith
@@ -40,10 +51,16 @@ loop-less c = omega arith
 
 loop-again : tie.Need-loop-again Inv-loop μ-loop
 loop-again c =
-    let l = c .before .before .before .before .before .before .before .before .before .loop in
-    let w = c .before .before .before .before .write-memory .kept .0 in
-    let m = c .before .before .before .before .write-memory .kept .1 .0 in
-    (same-shape (l .words) _ (l .marks) _ w m (l .inv .0), w ∙ l .inv .1, m ∙ l .inv .2, omega arith, load-on _ _ _ _ (row (l .words) (l .marks)) _ _ (c .before .before .before .before .before .before .before .before .loop-test .taken) (c .before .before .before .before .before .word-at .ensures) (c .before .before .before .before .write-memory .ensures) ∙ l .inv .4)
+    let s = c .before .before .before .before in
+    let w = s .write-memory .kept .0 in
+    let m = s .write-memory .kept .1 .0 in
+    let l = turn (s .before .before) .loop in (
+      same-shape (l .words) _ (l .marks) _ w m (l .inv .0),
+      w ∙ l .inv .1,
+      m ∙ l .inv .2,
+      omega arith,
+      load-on _ _ _ _ (row (l .words) (l .marks)) _ _ (s .before .before .before .before .loop-test .taken) (s .before .word-at .ensures) (s .write-memory .ensures) ∙ l .inv .4,
+    )
 
 same-length : tie.Need-same-length Inv-loop μ-loop
 same-length c = search needs

@@ -40,7 +40,13 @@ same-length-2 : tie.Need-same-length-2
 same-length-2 c = search needs
 
 returns : tie.Need-returns
-returns c = three-writes (row (c .before .before .before .before .before .before .before .before .before .before .before .before .before .before .before .before .before .before .before .before .before .before .before .args .words .now) (c .before .before .before .before .before .before .before .before .before .before .before .before .before .before .before .before .before .before .before .before .before .before .before .args .marks .now)) _ _ _ (c .before .before .before .before .before .before .before .before .before .before .before .before .before .before .before .before .before .before .write-slot .ensures) (c .before .before .before .before .before .before .before .before .before .before .before .write-slot2 .ensures) (c .before .before .before .before .write-memory .ensures)
+returns c =
+    let third = c .before .before .before .before in
+    let second = third .before .before .before .before .before .before .before in
+    let first = second .before .before .before .before .before .before .before in
+    let entry = first .before .before .before .before .before in
+    three-writes (row (entry .args .words .now) (entry .args .marks .now)) _ _ _ (first .write-slot .ensures)
+    (second .write-slot2 .ensures) (third .write-memory .ensures)
 
 pub start-spec : {M : Type 1} → statement M
 start-spec =

@@ -1,5 +1,5 @@
 use mathlib.Core.Path.{sym, ap, _∙_}
-use Prim.Native.Nat.{_*_}
+use Prim.Native.Nat.{_+_, _*_, _/_, _%_, _^_, _<_}
 use native.Mathlib.Omega.{arith}
 use lib.Pow.{pow-pos}
 use Rattle.reading.specs.Reading.{tail, tailOf, running}
@@ -8,6 +8,22 @@ use Rattle.reading.proofs.Tails.{tail-fits}
 use borrow.Author.Needs.{needs}
 use Rattle.reading.proofs.read_tail.Statement.{statement}
 use Rattle.reading.proofs.read_tail.Tie as tie
+
+-- ---- the places that the answers look back to, each by its way from the next one
+abbrev entry : tie.After-word → tie.Start
+entry w = w .before .before .before .before .before
+
+abbrev word : tie.After-draw → tie.After-word
+word d = d .before .before .before .before
+
+abbrev draw : tie.After-x → tie.After-draw
+draw x = x .before .before
+
+abbrev drawn : tie.After-unit-of → tie.After-x
+drawn u = u .before .before
+
+abbrev unit : tie.After-record-arg2 → tie.After-unit-of
+unit c = c .before .before
 
 enum-known-word : tie.Need-enum-known-word
 enum-known-word c = search needs
@@ -29,22 +45,33 @@ unit-of-requires : tie.Need-unit-of-requires
 unit-of-requires c κs = search needs
 
 rem-low : tie.Need-rem-low
-rem-low c = omega (arith, c .unit-of .ensures, pow-pos (8 * c .before .before .before .before .before .before .before .before .before .before .before .before .before .args .k))
+rem-low c = omega (arith, c .unit-of .ensures, pow-pos (8 * entry (word (draw (drawn c))) .args .k))
 
 div-record : tie.Need-div-record
-div-record c = omega (arith, c .before .before .unit-of .ensures, pow-pos (8 * c .before .before .before .before .before .before .before .before .before .before .before .before .before .before .before .args .k))
+div-record c = omega (arith, unit c .unit-of .ensures, pow-pos (8 * entry (word (draw (drawn (unit c)))) .args .k))
+
+-- the word with its lowest bytes drawn
+fits : (u : tie.After-unit-of) → let n = u .unit-of .result in word (draw (drawn u)) .word .given .0 .0 / n * n + drawn u .x .given .0 .0 % n < 2 ^ 64
+fits u =
+    let w = word (draw (drawn u)) in
+    tail-fits (w .word .given .0 .0) (drawn u .x .given .0 .0) _ _ (search needs) (entry w .pre .1 .1 .1) (u .unit-of .ensures)
 
 mul-record : tie.Need-mul-record
-mul-record c = let fits = tail-fits (c .before .before .before .before .before .before .before .before .before .before .word .given .0 .0) (c .before .before .before .before .x .given .0 .0) _ _ (search needs) (c .before .before .before .before .before .before .before .before .before .before .before .before .before .before .before .pre .1 .1 .1) (c .before .before .unit-of .ensures) in omega (arith, fits)
+mul-record c = omega (arith, fits (unit c))
 
 add-record : tie.Need-add-record
-add-record c = record { fits = tail-fits (c .before .before .before .before .before .before .before .before .before .before .word .given .0 .0) (c .before .before .before .before .x .given .0 .0) _ _ (search needs) (c .before .before .before .before .before .before .before .before .before .before .before .before .before .before .before .pre .1 .1 .1) (c .before .before .unit-of .ensures) }
+add-record c = record { fits = fits (unit c) }
 
 record-requires : tie.Need-record-requires
-record-requires c κs = (c .before .before .before .before .before .before .before .before .before .before .before .before .before .before .before .pre .0, (c .before .before .before .before .before .before .before .before .before .before .before .before .before .before .before .pre .1 .0, drawn-room _ _ _ _ (sym (c .before .before .before .before .before .before .draw .ensures) ∙ c .before .before .before .before .x .given .1) .0))
+record-requires c κs =
+    let x = drawn (unit c) in
+    let e = entry (word (draw x)) in
+    (e .pre .0, (e .pre .1 .0, drawn-room _ _ _ _ (sym (draw x .draw .ensures) ∙ x .x .given .1) .0))
 
 add-t29 : tie.Need-add-t29
-add-t29 c = omega (arith, drawn-room _ _ _ _ (sym (c .before .before .before .before .before .before .before .before .before .before .before .draw .ensures) ∙ c .before .before .before .before .before .before .before .before .before .x .given .1) .1)
+add-t29 c =
+    let x = drawn (c .before .before .before .before .before .before .before) in
+    omega (arith, drawn-room _ _ _ _ (sym (draw x .draw .ensures) ∙ x .x .given .1) .1)
 
 enum-known-error : tie.Need-enum-known-error
 enum-known-error c = search needs

@@ -6,6 +6,10 @@ use borrow.Author.Needs.{needs}
 use Rattle.reading.proofs.read_word.Statement.{statement}
 use Rattle.reading.proofs.read_word.Tie as tie
 
+-- where the word was drawn
+abbrev draw : tie.After-x → tie.After-draw
+draw x = x .before .before
+
 draw-requires : tie.Need-draw-requires
 draw-requires c κs = search needs
 
@@ -13,10 +17,15 @@ enum-known-x : tie.Need-enum-known-x
 enum-known-x c = search needs
 
 record-requires : tie.Need-record-requires
-record-requires c κs = (c .before .before .before .before .before .before .before .before .before .before .before .pre .0, (c .before .before .before .before .before .before .before .before .before .before .before .pre .1, drawn-room _ _ _ _ (sym (c .before .before .before .before .before .draw .ensures) ∙ c .before .before .before .x .given .1) .0))
+record-requires c κs =
+    let x = c .before .before .before in
+    let e = draw x .before .before .before .before .before .before in
+    (e .pre .0, (e .pre .1, drawn-room _ _ _ _ (sym (draw x .draw .ensures) ∙ x .x .given .1) .0))
 
 add-t20 : tie.Need-add-t20
-add-t20 c = omega (arith, drawn-room _ _ _ _ (sym (c .before .before .before .before .before .before .before .before .before .before .draw .ensures) ∙ c .before .before .before .before .before .before .before .before .x .given .1) .1)
+add-t20 c =
+    let x = c .before .before .before .before .before .before .before .before in
+    omega (arith, drawn-room _ _ _ _ (sym (draw x .draw .ensures) ∙ x .x .given .1) .1)
 
 enum-known-error : tie.Need-enum-known-error
 enum-known-error c = search needs
@@ -32,7 +41,9 @@ same-length-2 c = search needs
 
 returns : tie.Need-returns
 unfolding fullWord
-returns c = rw (← c .before .before .before .before .before .before .before .before .before .before .draw .ensures, c .before .before .before .before .before .before .before .before .x .given .1) (ap (running _) (c .before .before .before .before .«record» .ensures))
+returns c =
+    let x = c .before .before .before .before .before .before .before .before in
+    rw (← draw x .draw .ensures, x .x .given .1) (ap (running _) (c .before .before .before .before .«record» .ensures))
 
 same-length-3 : tie.Need-same-length-3
 same-length-3 c = search needs

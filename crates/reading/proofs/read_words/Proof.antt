@@ -16,6 +16,10 @@ Inv-loop words₀ marks₀ tape n m used at₀ k₀ words marks at k = (Shape wo
 abbrev μ-loop : tie.MeasureT-loop
 μ-loop words₀ marks₀ tape n m used at₀ k₀ words marks at k = n - k
 
+-- the turn in which a word was read
+abbrev turn : tie.After-read-word Inv-loop μ-loop → tie.At-loop Inv-loop μ-loop
+turn r = r .before .before .before .before
+
 loop-holds : tie.Need-loop-holds Inv-loop μ-loop
 loop-holds c = search needs
 
@@ -38,7 +42,10 @@ same-length-2 : tie.Need-same-length-2 Inv-loop μ-loop
 same-length-2 c = search needs
 
 returns : tie.Need-returns Inv-loop μ-loop
-returns c = read-ended _ _ _ _ _ (row (c .before .before .before .before .before .before .before .before .before .before .before .loop .words) (c .before .before .before .before .before .before .before .before .before .before .before .loop .marks)) _ (c .before .before .before .before .before .before .before .before .before .before .loop-test .taken) (c .before .before .before .before .before .before .before .read-word .ensures) _ (c .before .progress .given .1) ∙ c .before .before .before .before .before .before .before .before .before .before .before .loop .inv .4 ∙ read-none _ _ _ _ _
+returns c =
+    let r = c .before .before .before .before .before .before .before in
+    let l = turn r .loop in
+    read-ended _ _ _ _ _ (row (l .words) (l .marks)) _ (r .before .before .before .loop-test .taken) (r .read-word .ensures) _ (c .before .progress .given .1) ∙ l .inv .4 ∙ read-none _ _ _ _ _
 
 add-k : tie.Need-add-k Inv-loop μ-loop
 add-k c = search needs
@@ -48,10 +55,17 @@ loop-less c = search needs
 
 loop-again : tie.Need-loop-again Inv-loop μ-loop
 loop-again c =
-    let a = c .before .before .before .before .before .before .read-word .kept .0 in
-    let b = c .before .before .before .before .before .before .read-word .kept .1 .0 in
-    let s = c .before .before .before .before .before .before .before .before .before .before .loop .inv .0 in
-    (record { registers = omega (arith, a, b, s); slots = omega (arith, a, b, s) }, a ∙ c .before .before .before .before .before .before .before .before .before .before .loop .inv .1, b ∙ c .before .before .before .before .before .before .before .before .before .before .loop .inv .2, search needs, read-on _ _ _ _ _ (row (c .before .before .before .before .before .before .before .before .before .before .loop .words) (c .before .before .before .before .before .before .before .before .before .before .loop .marks)) _ (c .before .before .before .before .before .before .before .before .before .loop-test .taken) (c .before .before .before .before .before .before .read-word .ensures) (c .enum-told .given .1) ∙ c .before .before .before .before .before .before .before .before .before .before .loop .inv .4)
+    let r = c .before .before .before .before .before .before in
+    let l = turn r .loop in
+    let a = r .read-word .kept .0 in
+    let b = r .read-word .kept .1 .0 in
+    let s = l .inv .0 in (
+      record { registers = omega (arith, a, b, s); slots = omega (arith, a, b, s) },
+      a ∙ l .inv .1,
+      b ∙ l .inv .2,
+      search needs,
+      read-on _ _ _ _ _ (row (l .words) (l .marks)) _ (r .before .before .before .loop-test .taken) (r .read-word .ensures) (c .enum-told .given .1) ∙ l .inv .4,
+    )
 
 same-length-3 : tie.Need-same-length-3 Inv-loop μ-loop
 same-length-3 c = search needs

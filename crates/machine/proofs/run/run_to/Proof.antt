@@ -1,7 +1,7 @@
 use borrow.Author.Needs.{needs}
 use mathlib.Core.Logic.{⊎-elim}
 use mathlib.Core.Path.{_≡_, refl, sym, ap, _∙_, subst}
-use Prim.Native.Nat.{ℕ, _-_, _/_, _%_}
+use Prim.Native.Nat.{ℕ, _-_, _<_, _/_, _%_}
 use native.Mathlib.Omega.{arith}
 use lib.ListN.{length, getD}
 use Rattle.riscu.specs.Decoding.{decoded}
@@ -11,7 +11,7 @@ use Rattle.riscu.specs.declared.instruction.Decoded.the-variants.{Valid}
 use Rattle.riscu.proofs.Registers.{decoded-registers}
 use Rattle.answers.specs.declared.error.ExecutorError.the-variants.{InvalidInstructionEncoding}
 use Rattle.answers.specs.declared.outcome.Outcome.the-variants.{Failed}
-use Rattle.rows.specs.Rows.{row, Shape, depthOf}
+use Rattle.rows.specs.Rows.{Row, row, Shape, depthOf}
 use Rattle.reading.specs.Reading.{Reached, reached, ended}
 use Rattle.machine.specs.Steps.{deeper, advanced}
 use Rattle.machine.specs.Runs.{runFor}
@@ -27,6 +27,45 @@ Inv-loop words₀ marks₀ limit tape used known₀ instructions₀ at₀ words 
 
 abbrev μ-loop : tie.MeasureT-loop
 μ-loop words₀ marks₀ limit tape used known₀ instructions₀ at₀ words marks known instructions at = limit - getD words 2 0
+
+-- ---- the places that the answers look back to, each by its way from the next one
+abbrev Turn : Type 0
+Turn = tie.At-loop Inv-loop μ-loop
+
+abbrev Fetch : Type 0
+Fetch = tie.After-fetch-next Inv-loop μ-loop
+
+abbrev Word : Type 0
+Word = tie.After-word Inv-loop μ-loop
+
+abbrev Look : Type 0
+Look = tie.Joined2 Inv-loop μ-loop
+
+abbrev Move : Type 0
+Move = tie.After-advance Inv-loop μ-loop
+
+abbrev turn : Fetch → Turn
+turn f = f .before .before .before .before .before .before
+
+abbrev fetch : Word → Fetch
+fetch w = w .before .before .before .before
+
+abbrev word : Look → Word
+word l = l .before .before
+
+abbrev look : Move → Look
+look m = m .before .before .before .before
+
+-- the row at the start of a turn
+abbrev held : Turn → Row
+held t = row (t .loop .words) (t .loop .marks)
+
+abbrev entry : Turn → tie.Start Inv-loop μ-loop
+entry t = t .before .before .before .before
+
+-- a fetch is below the limit
+below : (f : Fetch) → depthOf (held (turn f)) < entry (turn f) .args .limit
+below f = f .before .before .before .if1 .left
 
 loop-holds : tie.Need-loop-holds Inv-loop μ-loop
 loop-holds c = (search needs, search needs, search needs, search needs, nothing-known)
@@ -47,7 +86,9 @@ same-length-2 : tie.Need-same-length-2 Inv-loop μ-loop
 same-length-2 c = search needs
 
 returns : tie.Need-returns Inv-loop μ-loop
-returns c = rw (c .answer .ensures) (at-limit _ _ _ (row (c .before .before .before .before .loop .words) (c .before .before .before .before .loop .marks)) (c .before .if1 .taken) ∙ c .before .before .before .before .loop .inv .3)
+returns c =
+    let t = c .before .before .before .before in
+    rw (c .answer .ensures) (at-limit _ _ _ (held t) (c .before .if1 .taken) ∙ t .loop .inv .3)
 
 fetch-next-requires : tie.Need-fetch-next-requires Inv-loop μ-loop
 fetch-next-requires c κs = search needs
@@ -77,13 +118,22 @@ failed-requires : tie.Need-failed-requires Inv-loop μ-loop
 failed-requires c κs = search needs
 
 same-length-3 : tie.Need-same-length-3 Inv-loop μ-loop
-same-length-3 c = c .before .before .before .before .before .before .before .before .before .before .fetch-next .kept .0 ∙ c .before .before .before .before .before .before .before .before .before .before .before .before .before .before .before .before .loop .inv .1
+same-length-3 c =
+    let f = fetch (c .before .before .before .before .before .before) in
+    f .fetch-next .kept .0 ∙ turn f .loop .inv .1
 
 same-length-4 : tie.Need-same-length-4 Inv-loop μ-loop
 same-length-4 c = search needs
 
 returns-2 : tie.Need-returns-2 Inv-loop μ-loop
-returns-2 c = rw (c .failed .ensures, c .before .before .before .before .before .before .before .before .before .before .fetch-next .ensures .1) (stopped _ _ _ (row (c .before .before .before .before .before .before .before .before .before .before .before .before .before .before .before .before .loop .words) (c .before .before .before .before .before .before .before .before .before .before .before .before .before .before .before .before .loop .marks)) (ended (Failed InvalidInstructionEncoding) (c .before .before .before .before .before .before .before .before .before .before .before .before .before .before .before .before .loop .at) (deeper (row (c .before .before .before .before .before .before .before .before .before .before .before .before .before .before .before .before .loop .words) (c .before .before .before .before .before .before .before .before .before .before .before .before .before .before .before .before .loop .marks)))) (omega arith) (by-invalid _ _ (row (c .before .before .before .before .before .before .before .before .before .before .before .before .before .before .before .before .loop .words) (c .before .before .before .before .before .before .before .before .before .before .before .before .before .before .before .before .loop .marks)) _ (sym (c .before .before .before .before .before .before .word .given .1) ∙ c .before .before .before .before .before .before .before .before .before .before .fetch-next .ensures .0) (sym (c .before .enum-told .given .1) ∙ c .before .before .before .decode .ensures)) _ refl ∙ c .before .before .before .before .before .before .before .before .before .before .before .before .before .before .before .before .loop .inv .3)
+returns-2 c =
+    let w = c .before .before .before .before .before .before in
+    let f = fetch w in
+    let t = turn f in
+    let no-instruction = sym (c .before .enum-told .given .1) ∙ c .before .before .before .decode .ensures in
+    let came = by-invalid _ _ (held t) _ (sym (w .word .given .1) ∙ f .fetch-next .ensures .0) no-instruction in
+    rw (c .failed .ensures, f .fetch-next .ensures .1)
+    (stopped _ _ _ (held t) (ended (Failed InvalidInstructionEncoding) (t .loop .at) (deeper (held t))) (below f) came _ refl ∙ t .loop .inv .3)
 
 mul-known : tie.Need-mul-known Inv-loop μ-loop
 mul-known c = search needs
@@ -104,27 +154,55 @@ array-copy-out-instruction : tie.Need-array-copy-out-instruction Inv-loop μ-loo
 array-copy-out-instruction c = search needs
 
 -- the table after a look: the fetched word's instruction is there
-looked : (c : tie.Joined2 Inv-loop μ-loop) → Looked (c .if2 .known) (c .if2 .instructions) (getD (c .before .before .before .before .before .before .before .before .before .before .before .before .loop .words) 0 0 / 4 % 64) (c .before .before .word .given .0 .0)
-looked c = ⊎-elim {0, 0, 0} (λ a. learnt _ _ (omega arith) (c .before .before .before .before .before .before .before .before .before .before .before .before .loop .inv .4) _ (sym (a .3 .given .1) ∙ a .1 .ensures) (a .5) (a .6)) (λ b. found _ _ (omega arith) (c .before .before .before .before .before .before .before .before .before .before .before .before .loop .inv .4) (b .0 .left) (b .1) (b .2)) (c .if2 .came)
+looked : (l : Look) → Looked (l .if2 .known) (l .if2 .instructions) (getD (turn (fetch (word l)) .loop .words) 0 0 / 4 % 64) (word l .word .given .0 .0)
+looked l =
+    let faithful = turn (fetch (word l)) .loop .inv .4 in
+    ⊎-elim {0, 0, 0} (λ a. learnt _ _ (omega arith) faithful _ (sym (a .3 .given .1) ∙ a .1 .ensures) (a .5) (a .6))
+    (λ b. found _ _ (omega arith) faithful (b .0 .left) (b .1) (b .2)) (l .if2 .came)
 
 valid-registers : {i : Instruction} (word : ℕ) → Valid i ≡ decoded word → Registers i
 valid-registers word e = subst RegistersIn (sym e) (decoded-registers word)
 
 advance-requires : tie.Need-advance-requires Inv-loop μ-loop
-advance-requires c κs = (record { registers = omega (arith, c .before .before .before .before .before .before .before .before .before .before .before .before .before .before .before .loop .inv .0); slots = omega (arith, c .before .before .before .before .before .before .before .before .before .fetch-next .kept .0, c .before .before .before .before .before .before .before .before .before .before .before .before .before .before .before .loop .inv .0) }, valid-registers _ (looked (c .before .before .before) .entry _))
+advance-requires c κs =
+    let l = c .before .before .before in
+    let f = fetch (word l) in
+    let shape = turn f .loop .inv .0 in
+    (record { registers = omega (arith, shape); slots = omega (arith, f .fetch-next .kept .0, shape) }, valid-registers _ (looked l .entry _))
 
 -- what fetching, looking and executing come to is the instruction
-moved : (c : tie.After-advance Inv-loop μ-loop) → _≡_ {A = Reached} (reached (c .advance .last .0) (c .advance .last .1 .0) (c .advance .result)) (advanced (c .before .before .before .before .before .before .before .before .before .before .before .before .before .before .before .before .before .before .before .before .args .tape .now) (c .before .before .before .before .before .before .before .before .before .before .before .before .before .before .before .before .loop .at) (row (c .before .before .before .before .before .before .before .before .before .before .before .before .before .before .before .before .loop .words) (c .before .before .before .before .before .before .before .before .before .before .before .before .before .before .before .before .loop .marks)))
-moved c = c .advance .ensures ∙ by-word _ _ (row (c .before .before .before .before .before .before .before .before .before .before .before .before .before .before .before .before .loop .words) (c .before .before .before .before .before .before .before .before .before .before .before .before .before .before .before .before .loop .marks)) _ _ _ (sym (c .before .before .before .before .before .before .word .given .1) ∙ c .before .before .before .before .before .before .before .before .before .before .fetch-next .ensures .0) (looked (c .before .before .before .before) .entry _) (c .before .before .before .before .before .before .before .before .before .before .fetch-next .ensures .1)
+moved : (m : Move) → let t = turn (fetch (word (look m))) in
+    _≡_ {A = Reached} (reached (m .advance .last .0) (m .advance .last .1 .0) (m .advance .result)) (advanced (entry t .args .tape .now) (t .loop .at) (held t))
+moved m =
+    let w = word (look m) in
+    let f = fetch w in
+    m .advance .ensures
+    ∙ by-word _ _ (held (turn f)) _ _ _ (sym (w .word .given .1) ∙ f .fetch-next .ensures .0) (looked (look m) .entry _) (f .fetch-next .ensures .1)
 
 enum-told-2 : tie.Need-enum-told-2 Inv-loop μ-loop
 enum-told-2 c = search needs
 
 loop-less : tie.Need-loop-less Inv-loop μ-loop
-loop-less c = omega (arith, ap (λ (y : Reached). depthOf (y .row)) (moved (c .before .before .before .before .before .before)) ∙ advanced-depth _ _ (row (c .before .before .before .before .before .before .before .before .before .before .before .before .before .before .before .before .before .before .before .before .before .before .loop .words) (c .before .before .before .before .before .before .before .before .before .before .before .before .before .before .before .before .before .before .before .before .before .before .loop .marks)) (omega (arith, c .before .before .before .before .before .before .before .before .before .before .before .before .before .before .before .before .before .before .before .before .before .before .loop .inv .0)))
+loop-less c =
+    let m = c .before .before .before .before .before .before in
+    let f = fetch (word (look m)) in
+    let t = turn f in
+    omega (arith, below f, ap (λ (y : Reached). depthOf (y .row)) (moved m) ∙ advanced-depth _ _ (held t) (omega (arith, t .loop .inv .0)))
 
 loop-again : tie.Need-loop-again Inv-loop μ-loop
-loop-again c = (record { registers = omega (arith, c .before .before .before .before .before .before .advance .kept .1 .0, c .before .before .before .before .before .before .before .before .before .before .before .before .before .before .before .before .before .before .before .before .before .before .loop .inv .0); slots = omega (arith, c .before .before .before .before .before .before .advance .kept .0 ∙ c .before .before .before .before .before .before .before .before .before .before .before .before .before .before .before .before .fetch-next .kept .0, c .before .before .before .before .before .before .advance .kept .1 .0, c .before .before .before .before .before .before .before .before .before .before .before .before .before .before .before .before .before .before .before .before .before .before .loop .inv .0) }, c .before .before .before .before .before .before .advance .kept .0 ∙ c .before .before .before .before .before .before .before .before .before .before .before .before .before .before .before .before .fetch-next .kept .0 ∙ c .before .before .before .before .before .before .before .before .before .before .before .before .before .before .before .before .before .before .before .before .before .before .loop .inv .1, c .before .before .before .before .before .before .advance .kept .1 .0 ∙ c .before .before .before .before .before .before .before .before .before .before .before .before .before .before .before .before .before .before .before .before .before .before .loop .inv .2, turned _ _ _ (row (c .before .before .before .before .before .before .before .before .before .before .before .before .before .before .before .before .before .before .before .before .before .before .loop .words) (c .before .before .before .before .before .before .before .before .before .before .before .before .before .before .before .before .before .before .before .before .before .before .loop .marks)) _ (omega arith) (moved (c .before .before .before .before .before .before)) (omega (arith, c .before .before .before .before .before .before .before .before .before .before .before .before .before .before .before .before .before .before .before .before .before .before .loop .inv .0)) (c .enum-told2 .given .1) ∙ c .before .before .before .before .before .before .before .before .before .before .before .before .before .before .before .before .before .before .before .before .before .before .loop .inv .3, looked (c .before .before .before .before .before .before .before .before .before .before) .faithful)
+loop-again c =
+    let m = c .before .before .before .before .before .before in
+    let f = fetch (word (look m)) in
+    let t = turn f in
+    let words-kept = m .advance .kept .0 ∙ f .fetch-next .kept .0 in
+    let marks-kept = m .advance .kept .1 .0 in
+    let shape = t .loop .inv .0 in (
+      record { registers = omega (arith, marks-kept, shape); slots = omega (arith, words-kept, marks-kept, shape) },
+      words-kept ∙ t .loop .inv .1,
+      marks-kept ∙ t .loop .inv .2,
+      turned _ _ _ (held t) _ (below f) (moved m) (omega (arith, shape)) (c .enum-told2 .given .1) ∙ t .loop .inv .3,
+      looked (look m) .faithful,
+    )
 
 enum-told-3 : tie.Need-enum-told-3 Inv-loop μ-loop
 enum-told-3 c = search needs
@@ -133,13 +211,21 @@ answer-requires-2 : tie.Need-answer-requires-2 Inv-loop μ-loop
 answer-requires-2 c κs = search needs
 
 same-length-5 : tie.Need-same-length-5 Inv-loop μ-loop
-same-length-5 c = c .before .before .before .before .before .before .before .advance .kept .0 ∙ c .before .before .before .before .before .before .before .before .before .before .before .before .before .before .before .before .before .fetch-next .kept .0 ∙ c .before .before .before .before .before .before .before .before .before .before .before .before .before .before .before .before .before .before .before .before .before .before .before .loop .inv .1
+same-length-5 c =
+    let m = c .before .before .before .before .before .before .before in
+    let f = fetch (word (look m)) in
+    m .advance .kept .0 ∙ f .fetch-next .kept .0 ∙ turn f .loop .inv .1
 
 same-length-6 : tie.Need-same-length-6 Inv-loop μ-loop
 same-length-6 c = search needs
 
 returns-3 : tie.Need-returns-3 Inv-loop μ-loop
-returns-3 c = rw (c .answer2 .ensures, c .before .enum-told3 .given .1) (stopped _ _ _ (row (c .before .before .before .before .before .before .before .before .before .before .before .before .before .before .before .before .before .before .before .before .before .before .before .loop .words) (c .before .before .before .before .before .before .before .before .before .before .before .before .before .before .before .before .before .before .before .before .before .before .before .loop .marks)) _ (omega arith) (moved (c .before .before .before .before .before .before .before)) _ (c .before .enum-told3 .given .1) ∙ c .before .before .before .before .before .before .before .before .before .before .before .before .before .before .before .before .before .before .before .before .before .before .before .loop .inv .3)
+returns-3 c =
+    let m = c .before .before .before .before .before .before .before in
+    let f = fetch (word (look m)) in
+    let t = turn f in
+    rw (c .answer2 .ensures, c .before .enum-told3 .given .1)
+    (stopped _ _ _ (held t) _ (below f) (moved m) _ (c .before .enum-told3 .given .1) ∙ t .loop .inv .3)
 
 enum-known-error : tie.Need-enum-known-error Inv-loop μ-loop
 enum-known-error c = search needs
@@ -148,13 +234,20 @@ failed-requires-2 : tie.Need-failed-requires-2 Inv-loop μ-loop
 failed-requires-2 c κs = search needs
 
 same-length-7 : tie.Need-same-length-7 Inv-loop μ-loop
-same-length-7 c = c .before .before .before .before .before .before .fetch-next .kept .0 ∙ c .before .before .before .before .before .before .before .before .before .before .before .before .loop .inv .1
+same-length-7 c =
+    let f = c .before .before .before .before .before .before in
+    f .fetch-next .kept .0 ∙ turn f .loop .inv .1
 
 same-length-8 : tie.Need-same-length-8 Inv-loop μ-loop
 same-length-8 c = search needs
 
 returns-4 : tie.Need-returns-4 Inv-loop μ-loop
-returns-4 c = rw (c .failed2 .ensures, c .before .before .before .before .before .before .fetch-next .ensures .1) (stopped _ _ _ (row (c .before .before .before .before .before .before .before .before .before .before .before .before .loop .words) (c .before .before .before .before .before .before .before .before .before .before .before .before .loop .marks)) (ended (Failed _) (c .before .before .before .before .before .before .before .before .before .before .before .before .loop .at) (deeper (row (c .before .before .before .before .before .before .before .before .before .before .before .before .loop .words) (c .before .before .before .before .before .before .before .before .before .before .before .before .loop .marks)))) (omega arith) (by-refusal _ _ (row (c .before .before .before .before .before .before .before .before .before .before .before .before .loop .words) (c .before .before .before .before .before .before .before .before .before .before .before .before .loop .marks)) _ (sym (c .before .before .error .given .1) ∙ c .before .before .before .before .before .before .fetch-next .ensures .0)) _ refl ∙ c .before .before .before .before .before .before .before .before .before .before .before .before .loop .inv .3)
+returns-4 c =
+    let f = c .before .before .before .before .before .before in
+    let t = turn f in
+    let came = by-refusal _ _ (held t) _ (sym (c .before .before .error .given .1) ∙ f .fetch-next .ensures .0) in
+    rw (c .failed2 .ensures, f .fetch-next .ensures .1)
+    (stopped _ _ _ (held t) (ended (Failed _) (t .loop .at) (deeper (held t))) (below f) came _ refl ∙ t .loop .inv .3)
 
 pub run-to-spec : {M : Type 1} → statement M
 run-to-spec =
