@@ -1,9 +1,12 @@
 // How a store is cut into rows.
 ghost use mathlib.Core.Path.{_≡_};
 ghost use Prim.Native.Nat.{_≤_};
-ghost use Rattle.store.specs.Store.{layout};
+ghost use Rattle.store.specs.Store.{layout, mostMemory, mostLog};
 use rows::row::HEADER;
 use rows::row::REGISTERS;
+
+// The most rows of a store.
+pub const MOST_ROWS: usize = 4096;
 
 // So many rows, of so many words and so many marks each.
 pub struct Layout {
@@ -15,7 +18,8 @@ pub struct Layout {
 impl Layout {
     // For rows of `memory` memory words and `log` log words each.
     pub fn new(rows: usize, memory: u64, log: u64) -> Layout
-        requires { ⌜ memory ≤ 131072 ⌝ ∗ ⌜ log ≤ 65536 ⌝ }
+        requires { ⌜ memory ≤ mostMemory ⌝ }
+        requires { ⌜ log ≤ mostLog ⌝ }
         ensures { λ r. ⌜ r ≡ layout rows memory log ⌝ }
     {
         Layout {
