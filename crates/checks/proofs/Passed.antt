@@ -30,6 +30,15 @@ lengths rows w l words marks h =
     let both = and-eq-true-iff (eqb words (rows * rowWords w l)) (eqb marks (rows * rowMarks w)) .0 h in
     (eqb-true _ _ (both .0), eqb-true _ _ (both .1))
 
+-- what the tests of numbers 1, 2 and 5 say of a store of so many rows, and of its two lengths
+pub store-lengths : (memory rows l words marks : ℕ) → isMemorySize memory ≡ true → isAmountOfStates rows ≡ true
+    → areLengths rows (memory / 8) l words marks ≡ true
+    → (rows ≤ 4096) × (0 < memory / 8) × (memory / 8 ≤ 131072) × (words ≡ rows * rowWords (memory / 8) l) × (marks ≡ rows * rowMarks (memory / 8))
+store-lengths memory rows l words marks m r e =
+    let b = memory-size memory m in
+    let both = lengths rows (memory / 8) l words marks e in
+    (amount-of-states rows r .1, omega (arith, b .1), omega (arith, b .2), both .0, both .1)
+
 pub whole : (bytes : ℕ) → isWhole bytes ≡ true → bytes % 8 ≡ 0
 whole bytes h = eqb-true _ _ h
 

@@ -7,7 +7,7 @@ use borrow.Author.Tests.{ltb-true, ltb-false, eqb-true, lt-ltb, le-ltb, ne-eqb}
 use lib.Dec.{eqb, ltb}
 use Rattle.rows.specs.Rows.{Row, slotAt}
 use Rattle.counting.specs.declared.cells.Holder.the-variants.{At, Nowhere}
-use Rattle.counting.specs.Cells.{placeAt, baseOf}
+use Rattle.counting.specs.Cells.{firstMemoryPlace, firstRegisterCell, firstMemoryCell, placeAt, baseOf}
 use Rattle.counting.specs.Probes.{placeOf}
 
 back : (n : ℕ) → suc n - 1 ≡ n
@@ -19,7 +19,7 @@ unfolding placeAt
 place-slot r zero h = absurd (h refl)
 place-slot r (suc n) h = rw (back n)
 
-pub base-slot : (place : ℕ) → (place ≡ 0 → ⊥) → baseOf place ≡ cond (ltb (place - 1) 32) (8 + (place - 1)) (264 + (place - 1 - 32))
+pub base-slot : (place : ℕ) → (place ≡ 0 → ⊥) → baseOf place ≡ cond (ltb (place - 1) 32) (firstRegisterCell + (place - 1)) (firstMemoryCell + (place - 1 - 32))
 unfolding baseOf
 base-slot zero h = absurd (h refl)
 base-slot (suc n) h = rw (back n)
@@ -28,21 +28,21 @@ pub base-zero : baseOf 0 ≡ 0
 unfolding baseOf
 base-zero = refl
 
-base-register : (n : ℕ) → n < 32 → baseOf (suc n) ≡ 8 + n
+base-register : (n : ℕ) → n < 32 → baseOf (suc n) ≡ firstRegisterCell + n
 unfolding baseOf
 base-register n h = rw (lt-ltb n 32 h)
 
-base-memory : (n : ℕ) → 32 ≤ n → baseOf (suc n) ≡ 264 + (n - 32)
+base-memory : (n : ℕ) → 32 ≤ n → baseOf (suc n) ≡ firstMemoryCell + (n - 32)
 unfolding baseOf
 base-memory n h = rw (le-ltb n 32 h)
 
-place-register : (base : ℕ) → 8 ≤ base → base - 8 < 32 → placeOf base ≡ At (1 + (base - 8))
+place-register : (base : ℕ) → firstRegisterCell ≤ base → base - firstRegisterCell < 32 → placeOf base ≡ At (1 + (base - firstRegisterCell))
 unfolding placeOf
-place-register base l h = rw (ne-eqb base 0 (λ e. omega arith), le-ltb base 8 l, lt-ltb (base - 8) 32 h)
+place-register base l h = rw (ne-eqb base 0 (λ e. omega arith), le-ltb base firstRegisterCell l, lt-ltb (base - firstRegisterCell) 32 h)
 
-place-memory : (base : ℕ) → 264 ≤ base → placeOf base ≡ At (33 + (base - 264))
+place-memory : (base : ℕ) → firstMemoryCell ≤ base → placeOf base ≡ At (firstMemoryPlace + (base - firstMemoryCell))
 unfolding placeOf
-place-memory base l = rw (ne-eqb base 0 (λ e. omega arith), le-ltb base 8 (omega arith), le-ltb (base - 8) 32 (omega arith), le-ltb base 264 l)
+place-memory base l = rw (ne-eqb base 0 (λ e. omega arith), le-ltb base firstRegisterCell (omega arith), le-ltb (base - firstRegisterCell) 32 (omega arith), le-ltb base firstMemoryCell l)
 
 -- every place is found at its base
 pub place-base : (place : ℕ) → placeOf (baseOf place) ≡ At place
@@ -53,27 +53,28 @@ place-base (suc n) = go (ltb n 32) refl
     go : (t : Bool) → ltb n 32 ≡ t → placeOf (baseOf (suc n)) ≡ At (suc n)
     go true e =
         let l : n < 32 = ltb-true n 32 e in
-        ap placeOf (base-register n l) ∙ place-register (8 + n) (omega arith) (omega arith) ∙ ap At (omega arith)
+        ap placeOf (base-register n l) ∙ place-register (firstRegisterCell + n) (omega arith) (omega arith) ∙ ap At (omega arith)
     go false e =
         let l : 32 ≤ n = ltb-false n 32 e in
-        ap placeOf (base-memory n l) ∙ place-memory (264 + (n - 32)) (omega arith) ∙ ap At (omega arith)
+        ap placeOf (base-memory n l) ∙ place-memory (firstMemoryCell + (n - 32)) (omega arith) ∙ ap At (omega arith)
 
 -- and only there
 pub base-place : (base place : ℕ) → placeOf base ≡ At place → baseOf place ≡ base
 unfolding placeOf
-base-place base place h = go (eqb base 0) (ltb base 8) (ltb (base - 8) 32) (ltb base 264) refl refl refl refl h
+base-place base place h = go (eqb base 0) (ltb base firstRegisterCell) (ltb (base - firstRegisterCell) 32) (ltb base firstMemoryCell) refl refl refl refl h
   where
-    go : (t u v w : Bool) → eqb base 0 ≡ t → ltb base 8 ≡ u → ltb (base - 8) 32 ≡ v → ltb base 264 ≡ w
-        → cond t (At 0) (cond u Nowhere (cond v (At (1 + (base - 8))) (cond w Nowhere (At (33 + (base - 264)))))) ≡ At place → baseOf place ≡ base
+    go : (t u v w : Bool) → eqb base 0 ≡ t → ltb base firstRegisterCell ≡ u → ltb (base - firstRegisterCell) 32 ≡ v → ltb base firstMemoryCell ≡ w
+        → cond t (At 0) (cond u Nowhere (cond v (At (1 + (base - firstRegisterCell))) (cond w Nowhere (At (firstMemoryPlace + (base - firstMemoryCell))))))
+        ≡ At place → baseOf place ≡ base
     go true u v w zero? low? register? gap? e =
         let at : 0 ≡ place = cc in
         ap baseOf (sym at) ∙ base-zero ∙ sym (eqb-true base 0 zero?)
     go false true v w zero? low? register? gap? e = cc
     go false false true w zero? low? register? gap? e =
-        let at : 1 + (base - 8) ≡ place = cc in
-        ap baseOf (omega arith) ∙ base-register (base - 8) (ltb-true (base - 8) 32 register?) ∙ omega (arith, ltb-false base 8 low?)
+        let at : 1 + (base - firstRegisterCell) ≡ place = cc in
+        ap baseOf (omega arith) ∙ base-register (base - firstRegisterCell) (ltb-true (base - firstRegisterCell) 32 register?) ∙ omega (arith, ltb-false base firstRegisterCell low?)
     go false false false true zero? low? register? gap? e = cc
     go false false false false zero? low? register? gap? e =
-        let at : 33 + (base - 264) ≡ place = cc in
-        let l : 264 ≤ base = ltb-false base 264 gap? in
-        ap baseOf (omega arith) ∙ base-memory (32 + (base - 264)) (omega arith) ∙ omega arith
+        let at : firstMemoryPlace + (base - firstMemoryCell) ≡ place = cc in
+        let l : firstMemoryCell ≤ base = ltb-false base firstMemoryCell gap? in
+        ap baseOf (omega arith) ∙ base-memory (32 + (base - firstMemoryCell)) (omega arith) ∙ omega arith

@@ -5,22 +5,35 @@ use mathlib.Core.List.{List, [], _∷_, _++_}
 use Prim.Native.Nat.{ℕ, zero, suc, _+_, _-_, _*_, _/_, _%_, _^_}
 use lib.Dec.{ltb}
 use lib.ListN.{length}
+use Rattle.values.specs.Values.{registerCount}
 use Rattle.values.specs.declared.Value.{Value}
 use Rattle.values.specs.declared.Value.the-variants.{Concrete, Uninitialized}
 use Rattle.rows.specs.Rows.{Row, pcOf, slotAt}
+
+-- the place of the first memory word, behind pc and the registers
+abbrev pub firstMemoryPlace : ℕ
+firstMemoryPlace = 1 + registerCount
+
+-- the cells of the first register's and the first memory word's lowest byte
+abbrev pub firstRegisterCell : ℕ
+firstRegisterCell = 8
+
+abbrev pub firstMemoryCell : ℕ
+firstMemoryCell = 264
 
 -- the value at a place; pc is always concrete
 unfoldable pub placeAt : Row → ℕ → Value
 placeAt r zero = Concrete (pcOf r)
 placeAt r (suc n) = slotAt r n
 
+-- how many places a row has
 abbrev pub places : Row → ℕ
 places r = suc (length (r .marks))
 
 -- the cell of a place's lowest byte: pc 0, register r 8 + r, memory word m 264 + m
 unfoldable pub baseOf : ℕ → ℕ
 baseOf zero = 0
-baseOf (suc n) = cond (ltb n 32) (8 + n) (264 + (n - 32))
+baseOf (suc n) = cond (ltb n registerCount) (firstRegisterCell + n) (firstMemoryCell + (n - registerCount))
 
 -- the cell of byte b of a place; cells of different places overlap
 abbrev pub cellOf : ℕ → ℕ → ℕ

@@ -1,4 +1,4 @@
--- How a counter is found: byte b of a word lies in a cell only if the word's lowest byte lies 8 * b cells before it, so that at most
+-- A stepping stone between contracts: how a counter is found. Byte b of a word lies in a cell only if the word's lowest byte lies 8 * b cells before it, so that at most
 -- eight words of a row are looked at.
 use mathlib.Core.Bool.{cond}
 use Prim.Native.Nat.{ℕ, _+_, _-_, _*_}
@@ -9,16 +9,16 @@ use Rattle.values.specs.declared.Value.the-variants.{Concrete, Uninitialized}
 use Rattle.rows.specs.Rows.{Row}
 use Rattle.counting.specs.declared.cells.Holder.{Holder}
 use Rattle.counting.specs.declared.cells.Holder.the-variants.{At, Nowhere}
-use Rattle.counting.specs.Cells.{placeAt, byteOf}
+use Rattle.counting.specs.Cells.{firstMemoryPlace, firstRegisterCell, firstMemoryCell, placeAt, byteOf}
 
 -- the place whose lowest byte is in a cell
 unfoldable pub placeOf : ℕ → Holder
 placeOf base =
     cond (eqb base 0) (At 0)
-    (cond (ltb base 8) Nowhere
-    (cond (ltb (base - 8) 32) (At (1 + (base - 8)))
-    (cond (ltb base 264) Nowhere
-    (At (33 + (base - 264))))))
+    (cond (ltb base firstRegisterCell) Nowhere
+    (cond (ltb (base - firstRegisterCell) 32) (At (1 + (base - firstRegisterCell)))
+    (cond (ltb base firstMemoryCell) Nowhere
+    (At (firstMemoryPlace + (base - firstMemoryCell))))))
 
 -- whether byte b of a value is the byte: 1 or 0
 unfoldable pub matches : ℕ → ℕ → Value → ℕ

@@ -1,10 +1,10 @@
 // Counters over the rows that take part.
 ghost use mathlib.Core.Path.{_≡_};
-ghost use Prim.Native.Nat.{_*_, _≤_, _<_};
+ghost use Prim.Native.Nat.{_≤_, _<_};
 ghost use lib.ListN.{length};
 ghost use Rattle.store.specs.Store.{Fit, rowsOf};
 ghost use Rattle.counting.specs.Cells.{addressOf};
-ghost use Rattle.counting.specs.Counters.{counterIn, taking};
+ghost use Rattle.counting.specs.Counters.{highestCounter, counterIn, taking};
 use crate::cells::hits;
 use store::layout::Layout;
 
@@ -17,9 +17,11 @@ pub fn counter(
     cell: usize,
     byte: u64,
 ) -> u64
-    requires { ⌜ Fit store (now words) (now marks) ⌝ ∗ ⌜ length (now flags) ≡ store .rows ⌝ ∗ ⌜ byte < 256 ⌝ }
-    ensures { λ r. ⌜ r ≡ counterIn (taking (now (flags .entry)) (rowsOf store (now (words .entry)) (now (marks .entry)))) (addressOf cell byte) ⌝
-        ∗ ⌜ r ≤ 32768 ⌝ }
+    requires { ⌜ Fit store (now words) (now marks) ⌝ }
+    requires { ⌜ length (now flags) ≡ store .rows ⌝ }
+    requires { ⌜ byte < 256 ⌝ }
+    ensures { λ n. ⌜ n ≡ counterIn (taking (now (flags .entry)) (rowsOf store (now (words .entry)) (now (marks .entry)))) (addressOf cell byte) ⌝ }
+    ensures { λ n. ⌜ n ≤ highestCounter ⌝ }
 {
     let mut n = 0;
     let mut r = 0;

@@ -13,33 +13,33 @@ use Rattle.values.specs.declared.Value.{Value}
 use Rattle.values.specs.declared.Value.the-variants.{Concrete, Uninitialized}
 use Rattle.rows.specs.Rows.{Row}
 use Rattle.store.specs.declared.layout.Layout.{Layout}
-use Rattle.store.specs.Store.{Fit, rowsOf, rowAt}
+use Rattle.store.specs.Store.{mostMarks, Fit, rowsOf, rowAt}
 use Rattle.store.proofs.Rows.{lent-row, lent-marks}
 use Rattle.means.specs.declared.MeanType.{MeanType}
 use Rattle.means.specs.declared.Tally.{Tally}
 use Rattle.means.specs.Means.{whole, sum}
 use Rattle.means.specs.Tallies.{tally, withCounter, Within, mostCounters}
 use Rattle.means.proofs.Taking.{tally-more}
-use Rattle.counting.specs.Cells.{placeAt, baseOf, cellOf, byteOf, addressOf, byteAddresses, wordAddresses, addressesTo}
-use Rattle.counting.specs.Counters.{counterIn, countersOf, taking}
+use Rattle.counting.specs.Cells.{firstRegisterCell, firstMemoryCell, placeAt, baseOf, cellOf, byteOf, addressOf, byteAddresses, wordAddresses, addressesTo}
+use Rattle.counting.specs.Counters.{highestCounter, counterIn, countersOf, taking}
 use Rattle.rarity.proofs.Among.{score-at, scores-length}
 use Rattle.rarity.specs.Taken.{Taken}
 use Rattle.rarity.specs.Scores.{score, flaggedScores, areOrdered}
 
 -- one counter more keeps a tally small
-pub within-more : {n m c : ℕ} {t u : Tally} → Within n t → c ≤ 32768 → u ≡ withCounter t c → n < m → Within m u
+pub within-more : {n m c : ℕ} {t u : Tally} → Within n t → c ≤ highestCounter → u ≡ withCounter t c → n < m → Within m u
 within-more {n} {m} w h e l = subst (Within m) (sym e) (record { few = omega (arith, w .few); small = omega (arith, w .small) })
 
 pub within-looser : {n m : ℕ} {t : Tally} → Within n t → n ≤ m → Within m t
 within-looser w l = record { few = omega (arith, w .few); small = w .small }
 
 -- a place's cells are within a usize
-pub base-most : (place : ℕ) → baseOf place ≤ 264 + place
+pub base-most : (place : ℕ) → baseOf place ≤ firstMemoryCell + place
 unfolding baseOf
 base-most zero = lit≤ tt
 base-most (suc n) = either (ltb n 32)
   where
-    either : (t : Bool) → cond t (8 + n) (264 + (n - 32)) ≤ 264 + suc n
+    either : (t : Bool) → cond t (firstRegisterCell + n) (firstMemoryCell + (n - 32)) ≤ firstMemoryCell + suc n
     either true = omega arith
     either false = omega arith
 
@@ -94,7 +94,7 @@ module _ {rows : List Row} {r : Row} {place : ℕ} {v : Value} {t u : Tally} (d 
       }
 
 pub places-end : {rows : List Row} {r : Row} {place : ℕ} {t : Tally} → Upto rows r place t → place ≡ length (r .marks) + 1
-    → length (r .marks) ≤ 131104 → (t ≡ tally (countersOf rows r)) × Within mostCounters t
+    → length (r .marks) ≤ mostMarks → (t ≡ tally (countersOf rows r)) × Within mostCounters t
 unfolding countersOf
 places-end {rows} {r} h e short =
     (h .counted ∙ ap (λ (n : ℕ). tally (map (counterIn rows) (addressesTo n r))) (e ∙ add-one (length (r .marks))), within-looser (h .within) (omega arith))

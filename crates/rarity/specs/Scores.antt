@@ -21,6 +21,7 @@ scoresAmong m all [] rows = []
 scoresAmong m all (f ∷ fs) [] = []
 scoresAmong m all (f ∷ fs) (r ∷ rows) = cond f (score m all r) (whole 0) ∷ scoresAmong m all fs rows
 
+-- the scores of the rows whose flag is set among themselves
 abbrev pub flaggedScores : MeanType → List Bool → List Row → List Float
 flaggedScores m flags rows = scoresAmong m (taking flags rows) flags rows
 

@@ -5,9 +5,9 @@ ghost use lib.ListN.{length};
 ghost use Rattle.store.specs.Store.{Fit, rowsOf, rowAt};
 ghost use Rattle.means.specs.Tallies.{tally, Within, mostCounters};
 ghost use Rattle.counting.specs.Cells.{placeAt, byteAddresses};
-ghost use Rattle.counting.specs.Counters.{countersOf, taking};
-ghost use Rattle.rarity.specs.Taken.{Taken};
-ghost use Rattle.rarity.specs.Scores.{score, flaggedScores, areOrdered};
+ghost use Rattle.counting.specs.Counters.{taking};
+ghost use Rattle.rarity.specs.Taken.{Taken, rowCounters, rowScore};
+ghost use Rattle.rarity.specs.Scores.{flaggedScores, areOrdered};
 use counting::cells::BYTES;
 use counting::cells::base_of;
 use counting::cells::byte_of;
@@ -28,9 +28,12 @@ fn tally_word(
     place: usize,
     x: u64,
 ) -> Tally
-    requires { ⌜ Fit store (now words) (now marks) ⌝ ∗ ⌜ length (now flags) ≡ store .rows ⌝ ∗ ⌜ place ≤ store .marks ⌝ ∗ ⌜ Within (8 * place) «so_far» ⌝ }
-    ensures { λ t. ⌜ Taken (taking (now (flags .entry)) (rowsOf store (now (words .entry)) (now (marks .entry)))) «so_far» (byteAddresses place x 8) t ⌝
-        ∗ ⌜ Within (8 * (place + 1)) t ⌝ }
+    requires { ⌜ Fit store (now words) (now marks) ⌝ }
+    requires { ⌜ length (now flags) ≡ store .rows ⌝ }
+    requires { ⌜ place ≤ store .marks ⌝ }
+    requires { ⌜ Within (8 * place) «so_far» ⌝ }
+    ensures { λ t. ⌜ Taken (taking (now (flags .entry)) (rowsOf store (now (words .entry)) (now (marks .entry)))) «so_far» (byteAddresses place x 8) t ⌝ }
+    ensures { λ t. ⌜ Within (8 * (place + 1)) t ⌝ }
 {
     let base = base_of(place);
     let mut t = so_far;
@@ -46,7 +49,9 @@ fn tally_word(
 
 // The value at a place of row r.
 fn value_at(words: &[u64], marks: &[u8], store: Layout, r: usize, place: usize) -> Value
-    requires { ⌜ Fit store (now words) (now marks) ⌝ ∗ ⌜ r < store .rows ⌝ ∗ ⌜ place ≤ store .marks ⌝ }
+    requires { ⌜ Fit store (now words) (now marks) ⌝ }
+    requires { ⌜ r < store .rows ⌝ }
+    requires { ⌜ place ≤ store .marks ⌝ }
     ensures { λ v. ⌜ v ≡ placeAt (rowAt (rowsOf store (now (words .entry)) (now (marks .entry))) r) place ⌝ }
 {
     let word = r * store.words;
@@ -60,10 +65,11 @@ fn value_at(words: &[u64], marks: &[u8], store: Layout, r: usize, place: usize) 
 
 // The counters of row r among the rows that take part, all of them in list order.
 fn tally_row(words: &[u64], marks: &[u8], store: Layout, flags: &[bool], r: usize) -> Tally
-    requires { ⌜ Fit store (now words) (now marks) ⌝ ∗ ⌜ length (now flags) ≡ store .rows ⌝ ∗ ⌜ r < store .rows ⌝ }
-    ensures { λ t. ⌜ t ≡ tally (countersOf (taking (now (flags .entry)) (rowsOf store (now (words .entry)) (now (marks .entry))))
-        (rowAt (rowsOf store (now (words .entry)) (now (marks .entry))) r)) ⌝
-        ∗ ⌜ Within mostCounters t ⌝ }
+    requires { ⌜ Fit store (now words) (now marks) ⌝ }
+    requires { ⌜ length (now flags) ≡ store .rows ⌝ }
+    requires { ⌜ r < store .rows ⌝ }
+    ensures { λ t. ⌜ t ≡ tally (rowCounters (now (flags .entry)) (rowsOf store (now (words .entry)) (now (marks .entry))) r) ⌝ }
+    ensures { λ t. ⌜ Within mostCounters t ⌝ }
 {
     let mut t = Tally::new();
     let mut place = 0;
@@ -86,9 +92,10 @@ fn score_row(
     mean: MeanType,
     r: usize,
 ) -> f64
-    requires { ⌜ Fit store (now words) (now marks) ⌝ ∗ ⌜ length (now flags) ≡ store .rows ⌝ ∗ ⌜ r < store .rows ⌝ }
-    ensures { λ s. ⌜ s ≡ score mean (taking (now (flags .entry)) (rowsOf store (now (words .entry)) (now (marks .entry))))
-        (rowAt (rowsOf store (now (words .entry)) (now (marks .entry))) r) ⌝ }
+    requires { ⌜ Fit store (now words) (now marks) ⌝ }
+    requires { ⌜ length (now flags) ≡ store .rows ⌝ }
+    requires { ⌜ r < store .rows ⌝ }
+    ensures { λ s. ⌜ s ≡ rowScore mean (now (flags .entry)) (rowsOf store (now (words .entry)) (now (marks .entry))) r ⌝ }
 {
     let t = tally_row(words, marks, store, flags, r);
     t.mean(mean)
@@ -103,7 +110,9 @@ pub fn score_rows(
     mean: MeanType,
     scores: &mut [f64],
 )
-    requires { ⌜ Fit store (now words) (now marks) ⌝ ∗ ⌜ length (now flags) ≡ store .rows ⌝ ∗ ⌜ length (now scores) ≡ store .rows ⌝ }
+    requires { ⌜ Fit store (now words) (now marks) ⌝ }
+    requires { ⌜ length (now flags) ≡ store .rows ⌝ }
+    requires { ⌜ length (now scores) ≡ store .rows ⌝ }
     ensures { λ _. ⌜ now (scores .exit) ≡ flaggedScores mean (now (flags .entry)) (rowsOf store (now (words .entry)) (now (marks .entry))) ⌝ }
 {
     let mut r = 0;

@@ -3,7 +3,6 @@ use mathlib.Core.Path.{_≡_, refl, sym, ap, _∙_}
 use mathlib.Core.Bool.{Bool, true, false, cond, and-eq-true-iff}
 use mathlib.Core.List.{List, [], _∷_}
 use Prim.Native.Nat.{ℕ, _/_, _≤_}
-use native.Mathlib.Omega.{arith}
 use borrow.Author.Tests.{eqb-true}
 use lib.Dec.{eqb}
 use lib.Ieee.{Float}
@@ -14,7 +13,7 @@ use Rattle.checks.specs.declared.refusal.Refusal.{Refusal}
 use Rattle.checks.specs.declared.refusal.Refusal.the-variants.{InvalidRow}
 use Rattle.checks.specs.declared.refusal.Checked.{Checked}
 use Rattle.checks.specs.declared.refusal.Checked.the-variants.{Accepted, Refused}
-use Rattle.checks.proofs.Passed.{memory-size, log-size}
+use Rattle.checks.proofs.Passed.{store-lengths, log-size}
 use Rattle.checks.proofs.Tests.{AllPass, all-pass, then-others, still-refused, one-test}
 use Rattle.store.specs.declared.layout.Layout.{Layout}
 use Rattle.store.specs.Store.{layout, rowsOf, Fit}
@@ -35,9 +34,10 @@ module _ (memory log rows : ℕ) (words marks : List ℕ) (scores : List Float) 
   sizes-pass p =
       let lent = areLengths rows (memory / 8) log (length words) (length marks) in
       let both = and-eq-true-iff lent (eqb (length scores) rows) .0 (p .1 .1 .1 .0) in
+      let b = store-lengths memory rows log (length words) (length marks) (p .0) (p .1 .0) (both .0) in
       record {
-        fit = lengths-fit memory log rows words marks (p .0) (p .1 .0) (both .0);
-        memory-most = omega (arith, memory-size memory (p .0) .2);
+        fit = lengths-fit rows (memory / 8) log (b .0) (b .1) (b .2) (b .3) (b .4);
+        memory-most = b .2;
         log-most = log-size log (p .1 .1 .0);
         one-each = eqb-true _ _ (both .1);
       }

@@ -4,7 +4,6 @@ use mathlib.Core.Bool.{Bool}
 use mathlib.Core.List.{List}
 use Prim.Native.Nat.{ℕ, _-_, _/_, _≤_}
 use native.Mathlib.Nat.{add-sub-cancel-left}
-use native.Mathlib.Omega.{arith}
 use lib.Dec.{T}
 use lib.ListN.{length}
 use Rattle.loader.specs.Loading.{Program, Segment, Fits}
@@ -13,7 +12,7 @@ use Rattle.checks.specs.Tests.{checkedBy}
 use Rattle.checks.specs.declared.refusal.Checked.{Checked}
 use Rattle.checks.specs.declared.refusal.Checked.the-variants.{Accepted}
 use Rattle.checks.proofs.Fitting.{segments-fit}
-use Rattle.checks.proofs.Passed.{memory-size, log-size}
+use Rattle.checks.proofs.Passed.{store-lengths, log-size}
 use Rattle.checks.proofs.Tests.{all-pass}
 use Rattle.store.specs.Store.{Fit}
 use Rattle.store.proofs.Lent.{lengths-fit}
@@ -46,12 +45,13 @@ module _ (o : RaritySimulationOptions) (log : ℕ) (p : Program) (words marks : 
   unfolding searchChecked
   allowed-by h =
       let t = all-pass (callTests o log p (length words) (length marks)) refl h in
+      let b = store-lengths (o .«memory_size») (o .«amount_of_states») log (length words) (length marks) (t .0) (t .1 .0) (t .1 .1 .1 .1 .0) in
       let f = segments-fit (o .«memory_size» / 8) p (t .1 .1 .1 .1 .1) in
       record {
         accepted = h;
-        fit = lengths-fit (o .«memory_size») log (o .«amount_of_states») words marks (t .0) (t .1 .0) (t .1 .1 .1 .1 .0);
+        fit = lengths-fit (o .«amount_of_states») (o .«memory_size» / 8) log (b .0) (b .1) (b .2) (b .3) (b .4);
         ratio = subst (λ (b : Bool). T b) (sym (t .1 .1 .0)) tt;
-        memory = omega (arith, memory-size (o .«memory_size») (t .0) .2);
+        memory = b .2;
         log-words = log-size log (t .1 .1 .1 .0);
         code-fits = in-words (p .codeSegment) (f .0);
         data-fits = in-words (p .dataSegment) (f .1);

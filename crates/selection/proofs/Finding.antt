@@ -65,13 +65,13 @@ scan-spot s i (x ∷ xs) =
 
 -- ---- a candidate's number is its place among the rows; with its flag cleared it is no candidate
 
-record Within (i : ℕ) (scores : List Float) (flags : List Bool) (j : ℕ) (c : ScoredRow) : Type 0 where
+record Candidate (i : ℕ) (scores : List Float) (flags : List Bool) (j : ℕ) (c : ScoredRow) : Type 0 where
   from : i ≤ c .row
   short : c .row - i < length scores
   without : candidates i scores (set flags (c .row - i) false) ≡ removeAt j (candidates i scores flags)
 
 -- one row further on; f is the flag of the row before
-module _ (i : ℕ) (s : Float) (scores : List Float) (flags : List Bool) (j : ℕ) (c : ScoredRow) (w : Within (suc i) scores flags j c) where
+module _ (i : ℕ) (s : Float) (scores : List Float) (flags : List Bool) (j : ℕ) (c : ScoredRow) (w : Candidate (suc i) scores flags j c) where
   further : c .row - i ≡ suc (c .row - suc i)
   further = omega (arith, w .from)
 
@@ -83,26 +83,26 @@ module _ (i : ℕ) (s : Float) (scores : List Float) (flags : List Bool) (j : �
       ∙ ap (λ (l : List ScoredRow). cond f (record { row = i; score = s } ∷ l) l) (w .without)
 
   later : (f : Bool) (k : ℕ) → candidates i (s ∷ scores) (set (f ∷ flags) (c .row - i) false) ≡ removeAt k (candidates i (s ∷ scores) (f ∷ flags))
-      → Within i (s ∷ scores) (f ∷ flags) k c
+      → Candidate i (s ∷ scores) (f ∷ flags) k c
   later f k e = record { from = omega (arith, w .from); short = omega (arith, w .from, w .short); without = e }
 
-within : (i : ℕ) (scores : List Float) (flags : List Bool) (j : ℕ) (d : ScoredRow) → j < length (candidates i scores flags)
-    → Within i scores flags j (getD (candidates i scores flags) j d)
+candidate : (i : ℕ) (scores : List Float) (flags : List Bool) (j : ℕ) (d : ScoredRow) → j < length (candidates i scores flags)
+    → Candidate i scores flags j (getD (candidates i scores flags) j d)
 unfolding candidates
-within i [] flags j d h = absurd (not-suc-le-zero h)
-within i (s ∷ scores) [] j d h = absurd (not-suc-le-zero h)
-within i (s ∷ scores) (false ∷ flags) j d h =
-    let w = within (suc i) scores flags j d h in
+candidate i [] flags j d h = absurd (not-suc-le-zero h)
+candidate i (s ∷ scores) [] j d h = absurd (not-suc-le-zero h)
+candidate i (s ∷ scores) (false ∷ flags) j d h =
+    let w = candidate (suc i) scores flags j d h in
     later i s scores flags j _ w false j (stays i s scores flags j _ w false)
-within i (s ∷ scores) (true ∷ flags) zero d h =
+candidate i (s ∷ scores) (true ∷ flags) zero d h =
     let z : i - i ≡ 0 = omega arith in
     record {
       from = omega arith;
       short = omega arith;
       without = ap (λ (k : ℕ). candidates i (s ∷ scores) (set (true ∷ flags) k false)) z;
     }
-within i (s ∷ scores) (true ∷ flags) (suc j) d h =
-    let w = within (suc i) scores flags j d (le-of-suc-le-suc h) in
+candidate i (s ∷ scores) (true ∷ flags) (suc j) d h =
+    let w = candidate (suc i) scores flags j d (le-of-suc-le-suc h) in
     later i s scores flags j _ w true (suc j) (stays i s scores flags j _ w true)
 
 pub candidates-few : (i : ℕ) (scores : List Float) (flags : List Bool) → length (candidates i scores flags) ≤ length scores
@@ -159,7 +159,7 @@ module _ {k : ℕ} {scores : List Float} {flags live : List Bool} {order : List 
       let x-is : s .what ≡ x = one-is (s .what) x (sym (scan-spot (record { at = 0; what = y }) 1 ys) ∙ sym b) in
       let at : s .at < length (candidates 0 scores live) = subst (λ (l : List ScoredRow). s .at < length l) (sym e) (a .within) in
       let is : getD (candidates 0 scores live) (s .at) y ≡ x = ap (λ (l : List ScoredRow). getD l (s .at) y) e ∙ a .there-it-is ∙ x-is in
-      let w : Within 0 scores live (s .at) x = subst (λ (c : ScoredRow). Within 0 scores live (s .at) c) is (within 0 scores live (s .at) y at) in
+      let w : Candidate 0 scores live (s .at) x = subst (λ (c : ScoredRow). Candidate 0 scores live (s .at) c) is (candidate 0 scores live (s .at) y at) in
       let r0 : x .row - 0 ≡ x .row = omega arith in
       let others = removeAt (s .at) (y ∷ ys) in
       let gone : candidates 0 scores (set live (x .row) false) ≡ others =

@@ -1,5 +1,5 @@
 pub mod Pairs
 pub mod Finding
-pub mod Kept
+pub mod KeptNumbers
 pub mod Placing
 pub mod States

@@ -1,4 +1,4 @@
--- One exchange of two rows, in the rows and in the two lists of where each row is; and the loop of them.
+-- Two rows that change places, in the rows and in the two lists of where each row is; and the loop of them.
 use mathlib.Core.Bool.{Bool, true, false}
 use mathlib.Core.List.{List, [], _++_, map}
 use mathlib.Core.Path.{_≡_, refl, sym, ap, _∙_, subst}
@@ -12,20 +12,20 @@ use lib.ListN.{length, getD, take, set, replicate, length-set, length-map}
 use lib.Seq.{getD-set-same, getD-set-other, getD-take, ext-getD, length-take-le}
 use Rattle.rows.specs.Rows.{Row, row}
 use Rattle.store.specs.declared.layout.Layout.{Layout}
-use Rattle.store.specs.Store.{rowAt, zeroRow, exchange}
+use Rattle.store.specs.Store.{rowAt, zeroRow, rowsSwapped}
 use Rattle.rounds.specs.Rounds.{stored}
-use Rattle.selection.specs.Places.{Numbers, Own}
-use Rattle.selection.proofs.Kept.{map-get}
+use Rattle.selection.specs.Places.{Numbers, Own, rowsNumbered}
+use Rattle.selection.proofs.KeptNumbers.{map-get}
 
--- `at` says where each of n rows is, `who` which row is where: `rows` are those of `start`, moved so
-pub record Mapped (n : ℕ) (at who : List ℕ) (start rows : List Row) : Type 0 where
-  pub at-all : n ≤ length at
-  pub who-all : n ≤ length who
-  pub who-in : (p : ℕ) → p < n → getD who p 0 < n
-  pub forth : (p : ℕ) → p < n → getD at (getD who p 0) 0 ≡ p
-  pub at-in : (r : ℕ) → r < n → getD at r 0 < n
-  pub back : (r : ℕ) → r < n → getD who (getD at r 0) 0 ≡ r
-  pub moved : (p : ℕ) → p < n → rowAt rows p ≡ rowAt start (getD who p 0)
+-- `place-of` says where each of n rows is, `row-at` which row is where: `rows` are those of `start`, moved so
+pub record Mapped (n : ℕ) (place-of row-at : List ℕ) (start rows : List Row) : Type 0 where
+  pub place-of-all : n ≤ length place-of
+  pub row-at-all : n ≤ length row-at
+  pub row-at-in : (place : ℕ) → place < n → getD row-at place 0 < n
+  pub forth : (place : ℕ) → place < n → getD place-of (getD row-at place 0) 0 ≡ place
+  pub place-of-in : (r : ℕ) → r < n → getD place-of r 0 < n
+  pub back : (r : ℕ) → r < n → getD row-at (getD place-of r 0) 0 ≡ r
+  pub moved : (place : ℕ) → place < n → rowAt rows place ≡ rowAt start (getD row-at place 0)
 
 less-not : {a b : ℕ} → a < b → a ≡ b → ⊥
 less-not l e = omega arith
@@ -59,203 +59,208 @@ module _ {A : Type 0} (l : List A) (a b : ℕ) (x y d : A) where
   at-other : (k : ℕ) → (k ≡ b → ⊥) → (k ≡ a → ⊥) → getD both k d ≡ getD l k d
   at-other k n m = getD-set-other (set l a x) b k y d n ∙ getD-set-other l a k x d m
 
-mapped-own : (n : ℕ) (at who : List ℕ) (rows : List Row) → n ≤ length at → n ≤ length who → Own at → Own who → Mapped n at who rows rows
-mapped-own n at who rows la lw oa ow =
+mapped-own : (n : ℕ) (place-of row-at : List ℕ) (rows : List Row) → Own n place-of → Own n row-at → Mapped n place-of row-at rows rows
+mapped-own n place-of row-at rows a b =
     record {
-      at-all = la;
-      who-all = lw;
-      who-in = λ p h. omega (arith, ow p (lt-of-lt-of-le h lw));
-      forth = λ p h. ap (λ (k : ℕ). getD at k 0) (ow p (lt-of-lt-of-le h lw)) ∙ oa p (lt-of-lt-of-le h la);
-      at-in = λ r h. omega (arith, oa r (lt-of-lt-of-le h la));
-      back = λ r h. ap (λ (k : ℕ). getD who k 0) (oa r (lt-of-lt-of-le h la)) ∙ ow r (lt-of-lt-of-le h lw);
-      moved = λ p h. ap (λ (k : ℕ). rowAt rows k) (sym (ow p (lt-of-lt-of-le h lw)));
+      place-of-all = a .room;
+      row-at-all = b .room;
+      row-at-in = λ place h. omega (arith, b .own place h);
+      forth = λ place h. ap (λ (k : ℕ). getD place-of k 0) (b .own place h) ∙ a .own place h;
+      place-of-in = λ r h. omega (arith, a .own r h);
+      back = λ r h. ap (λ (k : ℕ). getD row-at k 0) (a .own r h) ∙ b .own r h;
+      moved = λ place h. ap (λ (k : ℕ). rowAt rows k) (sym (b .own place h));
     }
 
--- row o comes to place i, and the row that is there goes where o was
-module _ {n : ℕ} {at who : List ℕ} {start rows : List Row} (M : Mapped n at who start rows) (all : length rows ≡ n) (i o : ℕ) (hi : i < n) (ho : o < n) where
-  abbrev p : ℕ
-  p = getD at o 0
+-- row `incoming` comes to `place`, and the row that is there goes where `incoming` was
+module _ {n : ℕ} {place-of row-at : List ℕ} {start rows : List Row} (M : Mapped n place-of row-at start rows) (all : length rows ≡ n)
+    (place incoming : ℕ) (h-place : place < n) (h-incoming : incoming < n) where
+  abbrev from : ℕ
+  from = getD place-of incoming 0
 
-  abbrev w : ℕ
-  w = getD who i 0
+  abbrev displaced : ℕ
+  displaced = getD row-at place 0
 
-  abbrev at′ : List ℕ
-  at′ = set (set at w p) o i
+  abbrev place-of′ : List ℕ
+  place-of′ = set (set place-of displaced from) incoming place
 
-  abbrev who′ : List ℕ
-  who′ = set (set who p w) i o
+  abbrev row-at′ : List ℕ
+  row-at′ = set (set row-at from displaced) place incoming
 
-  hp : p < n
-  hp = M .at-in o ho
+  h-from : from < n
+  h-from = M .place-of-in incoming h-incoming
 
-  hw : w < n
-  hw = M .who-in i hi
+  h-displaced : displaced < n
+  h-displaced = M .row-at-in place h-place
 
   -- the two may be one row
-  one : p ≡ i → w ≡ o
-  one e = ap (λ (k : ℕ). getD who k 0) (sym e) ∙ M .back o ho
+  one : from ≡ place → displaced ≡ incoming
+  one e = ap (λ (k : ℕ). getD row-at k 0) (sym e) ∙ M .back incoming h-incoming
 
-  one′ : w ≡ o → p ≡ i
-  one′ e = ap (λ (k : ℕ). getD at k 0) (sym e) ∙ M .forth i hi
+  one′ : displaced ≡ incoming → from ≡ place
+  one′ e = ap (λ (k : ℕ). getD place-of k 0) (sym e) ∙ M .forth place h-place
 
   -- what the two lists have now
-  who-first : (q : ℕ) → q ≡ i → getD who′ q 0 ≡ o
-  who-first q e = at-first who p i w o 0 q e (lt-of-lt-of-le hi (M .who-all))
+  row-at-first : (q : ℕ) → q ≡ place → getD row-at′ q 0 ≡ incoming
+  row-at-first q e = at-first row-at from place displaced incoming 0 q e (lt-of-lt-of-le h-place (M .row-at-all))
 
-  who-second : (q : ℕ) → (q ≡ i → ⊥) → q ≡ p → getD who′ q 0 ≡ w
-  who-second q m e = at-second who p i w o 0 q m e (lt-of-lt-of-le hp (M .who-all))
+  row-at-second : (q : ℕ) → (q ≡ place → ⊥) → q ≡ from → getD row-at′ q 0 ≡ displaced
+  row-at-second q m e = at-second row-at from place displaced incoming 0 q m e (lt-of-lt-of-le h-from (M .row-at-all))
 
-  who-other : (q : ℕ) → (q ≡ i → ⊥) → (q ≡ p → ⊥) → getD who′ q 0 ≡ getD who q 0
-  who-other q m m′ = at-other who p i w o 0 q m m′
+  row-at-other : (q : ℕ) → (q ≡ place → ⊥) → (q ≡ from → ⊥) → getD row-at′ q 0 ≡ getD row-at q 0
+  row-at-other q m m′ = at-other row-at from place displaced incoming 0 q m m′
 
-  now-first : (r : ℕ) → r ≡ o → getD at′ r 0 ≡ i
-  now-first r e = at-first at w o p i 0 r e (lt-of-lt-of-le ho (M .at-all))
+  place-of-first : (r : ℕ) → r ≡ incoming → getD place-of′ r 0 ≡ place
+  place-of-first r e = at-first place-of displaced incoming from place 0 r e (lt-of-lt-of-le h-incoming (M .place-of-all))
 
-  now-second : (r : ℕ) → (r ≡ o → ⊥) → r ≡ w → getD at′ r 0 ≡ p
-  now-second r m e = at-second at w o p i 0 r m e (lt-of-lt-of-le hw (M .at-all))
+  place-of-second : (r : ℕ) → (r ≡ incoming → ⊥) → r ≡ displaced → getD place-of′ r 0 ≡ from
+  place-of-second r m e = at-second place-of displaced incoming from place 0 r m e (lt-of-lt-of-le h-displaced (M .place-of-all))
 
-  now-other : (r : ℕ) → (r ≡ o → ⊥) → (r ≡ w → ⊥) → getD at′ r 0 ≡ getD at r 0
-  now-other r m m′ = at-other at w o p i 0 r m m′
+  place-of-other : (r : ℕ) → (r ≡ incoming → ⊥) → (r ≡ displaced → ⊥) → getD place-of′ r 0 ≡ getD place-of r 0
+  place-of-other r m m′ = at-other place-of displaced incoming from place 0 r m m′
 
-  who-in′ : (q : ℕ) → q < n → Where i p q → getD who′ q 0 < n
-  who-in′ q h (first e) = subst (λ (k : ℕ). k < n) (sym (who-first q e)) ho
-  who-in′ q h (second m e) = subst (λ (k : ℕ). k < n) (sym (who-second q m e)) hw
-  who-in′ q h (other m m′) = subst (λ (k : ℕ). k < n) (sym (who-other q m m′)) (M .who-in q h)
+  row-at-in′ : (q : ℕ) → q < n → Where place from q → getD row-at′ q 0 < n
+  row-at-in′ q h (first e) = subst (λ (k : ℕ). k < n) (sym (row-at-first q e)) h-incoming
+  row-at-in′ q h (second m e) = subst (λ (k : ℕ). k < n) (sym (row-at-second q m e)) h-displaced
+  row-at-in′ q h (other m m′) = subst (λ (k : ℕ). k < n) (sym (row-at-other q m m′)) (M .row-at-in q h)
 
-  at-in′ : (r : ℕ) → r < n → Where o w r → getD at′ r 0 < n
-  at-in′ r h (first e) = subst (λ (k : ℕ). k < n) (sym (now-first r e)) hi
-  at-in′ r h (second m e) = subst (λ (k : ℕ). k < n) (sym (now-second r m e)) hp
-  at-in′ r h (other m m′) = subst (λ (k : ℕ). k < n) (sym (now-other r m m′)) (M .at-in r h)
+  place-of-in′ : (r : ℕ) → r < n → Where incoming displaced r → getD place-of′ r 0 < n
+  place-of-in′ r h (first e) = subst (λ (k : ℕ). k < n) (sym (place-of-first r e)) h-place
+  place-of-in′ r h (second m e) = subst (λ (k : ℕ). k < n) (sym (place-of-second r m e)) h-from
+  place-of-in′ r h (other m m′) = subst (λ (k : ℕ). k < n) (sym (place-of-other r m m′)) (M .place-of-in r h)
 
-  forth′ : (q : ℕ) → q < n → Where i p q → getD at′ (getD who′ q 0) 0 ≡ q
-  forth′ q h (first e) = ap (λ (k : ℕ). getD at′ k 0) (who-first q e) ∙ now-first o refl ∙ sym e
-  forth′ q h (second m e) = ap (λ (k : ℕ). getD at′ k 0) (who-second q m e) ∙ now-second w (λ z. m (e ∙ one′ z)) refl ∙ sym e
+  forth′ : (q : ℕ) → q < n → Where place from q → getD place-of′ (getD row-at′ q 0) 0 ≡ q
+  forth′ q h (first e) = ap (λ (k : ℕ). getD place-of′ k 0) (row-at-first q e) ∙ place-of-first incoming refl ∙ sym e
+  forth′ q h (second m e) = ap (λ (k : ℕ). getD place-of′ k 0) (row-at-second q m e) ∙ place-of-second displaced (λ z. m (e ∙ one′ z)) refl ∙ sym e
   forth′ q h (other m m′) =
-      ap (λ (k : ℕ). getD at′ k 0) (who-other q m m′)
-      ∙ now-other (getD who q 0) (λ z. m′ (sym (M .forth q h) ∙ ap (λ (k : ℕ). getD at k 0) z))
-      (λ z. m (sym (M .forth q h) ∙ ap (λ (k : ℕ). getD at k 0) z ∙ M .forth i hi))
+      ap (λ (k : ℕ). getD place-of′ k 0) (row-at-other q m m′)
+      ∙ place-of-other (getD row-at q 0) (λ z. m′ (sym (M .forth q h) ∙ ap (λ (k : ℕ). getD place-of k 0) z))
+      (λ z. m (sym (M .forth q h) ∙ ap (λ (k : ℕ). getD place-of k 0) z ∙ M .forth place h-place))
       ∙ M .forth q h
 
-  back′ : (r : ℕ) → r < n → Where o w r → getD who′ (getD at′ r 0) 0 ≡ r
-  back′ r h (first e) = ap (λ (k : ℕ). getD who′ k 0) (now-first r e) ∙ who-first i refl ∙ sym e
-  back′ r h (second m e) = ap (λ (k : ℕ). getD who′ k 0) (now-second r m e) ∙ who-second p (λ z. m (e ∙ one z)) refl ∙ sym e
+  back′ : (r : ℕ) → r < n → Where incoming displaced r → getD row-at′ (getD place-of′ r 0) 0 ≡ r
+  back′ r h (first e) = ap (λ (k : ℕ). getD row-at′ k 0) (place-of-first r e) ∙ row-at-first place refl ∙ sym e
+  back′ r h (second m e) = ap (λ (k : ℕ). getD row-at′ k 0) (place-of-second r m e) ∙ row-at-second from (λ z. m (e ∙ one z)) refl ∙ sym e
   back′ r h (other m m′) =
-      ap (λ (k : ℕ). getD who′ k 0) (now-other r m m′)
-      ∙ who-other (getD at r 0) (λ z. m′ (sym (M .back r h) ∙ ap (λ (k : ℕ). getD who k 0) z))
-      (λ z. m (sym (M .back r h) ∙ ap (λ (k : ℕ). getD who k 0) z ∙ M .back o ho))
+      ap (λ (k : ℕ). getD row-at′ k 0) (place-of-other r m m′)
+      ∙ row-at-other (getD place-of r 0) (λ z. m′ (sym (M .back r h) ∙ ap (λ (k : ℕ). getD row-at k 0) z))
+      (λ z. m (sym (M .back r h) ∙ ap (λ (k : ℕ). getD row-at k 0) z ∙ M .back incoming h-incoming))
       ∙ M .back r h
 
-  moved′ : (q : ℕ) → q < n → Where p i q → rowAt (exchange i p rows) q ≡ rowAt start (getD who′ q 0)
+  moved′ : (q : ℕ) → q < n → Where from place q → rowAt (rowsSwapped place from rows) q ≡ rowAt start (getD row-at′ q 0)
   moved′ q h (first e) =
-      at-first rows i p (rowAt rows p) (rowAt rows i) (row [] []) q e (subst (λ (k : ℕ). p < k) (sym all) hp)
-      ∙ M .moved i hi
-      ∙ ap (λ (k : ℕ). rowAt start k) (sym (now-p (find i p q)))
+      at-first rows place from (rowAt rows from) (rowAt rows place) (row [] []) q e (subst (λ (k : ℕ). from < k) (sym all) h-from)
+      ∙ M .moved place h-place
+      ∙ ap (λ (k : ℕ). rowAt start k) (sym (now-from (find place from q)))
     where
-      now-p : Where i p q → getD who′ q 0 ≡ w
-      now-p (first f) = who-first q f ∙ sym (one (sym e ∙ f))
-      now-p (second m f) = who-second q m f
-      now-p (other m m′) = absurd (m′ e)
+      now-from : Where place from q → getD row-at′ q 0 ≡ displaced
+      now-from (first f) = row-at-first q f ∙ sym (one (sym e ∙ f))
+      now-from (second m f) = row-at-second q m f
+      now-from (other m m′) = absurd (m′ e)
   moved′ q h (second m e) =
-      at-second rows i p (rowAt rows p) (rowAt rows i) (row [] []) q m e (subst (λ (k : ℕ). i < k) (sym all) hi)
-      ∙ M .moved p hp
-      ∙ ap (λ (k : ℕ). rowAt start k) (M .back o ho ∙ sym (who-first q e))
+      at-second rows place from (rowAt rows from) (rowAt rows place) (row [] []) q m e (subst (λ (k : ℕ). place < k) (sym all) h-place)
+      ∙ M .moved from h-from
+      ∙ ap (λ (k : ℕ). rowAt start k) (M .back incoming h-incoming ∙ sym (row-at-first q e))
   moved′ q h (other m m′) =
-      at-other rows i p (rowAt rows p) (rowAt rows i) (row [] []) q m m′
+      at-other rows place from (rowAt rows from) (rowAt rows place) (row [] []) q m m′
       ∙ M .moved q h
-      ∙ ap (λ (k : ℕ). rowAt start k) (sym (who-other q m′ m))
+      ∙ ap (λ (k : ℕ). rowAt start k) (sym (row-at-other q m′ m))
 
-  exchanged : Mapped n at′ who′ start (exchange i p rows)
+  exchanged : Mapped n place-of′ row-at′ start (rowsSwapped place from rows)
   exchanged =
       record {
-        at-all = omega (arith, M .at-all, length-set (set at w p) o i, length-set at w p);
-        who-all = omega (arith, M .who-all, length-set (set who p w) i o, length-set who p w);
-        who-in = λ q h. who-in′ q h (find i p q);
-        forth = λ q h. forth′ q h (find i p q);
-        at-in = λ r h. at-in′ r h (find o w r);
-        back = λ r h. back′ r h (find o w r);
-        moved = λ q h. moved′ q h (find p i q);
+        place-of-all = omega (arith, M .place-of-all, length-set (set place-of displaced from) incoming place, length-set place-of displaced from);
+        row-at-all = omega (arith, M .row-at-all, length-set (set row-at from displaced) place incoming, length-set row-at from displaced);
+        row-at-in = λ q h. row-at-in′ q h (find place from q);
+        forth = λ q h. forth′ q h (find place from q);
+        place-of-in = λ r h. place-of-in′ r h (find incoming displaced r);
+        back = λ r h. back′ r h (find incoming displaced r);
+        moved = λ q h. moved′ q h (find from place q);
       }
 
 -- ---- the loop
 
-pub record Placing (n kept : ℕ) (order at who : List ℕ) (start rows : List Row) (i : ℕ) : Type 0 where
-  pub upto : i ≤ kept
+pub record Placing (n kept : ℕ) (order place-of row-at : List ℕ) (start rows : List Row) (place : ℕ) : Type 0 where
+  pub upto : place ≤ kept
   pub all : length rows ≡ n
-  pub mapped : Mapped n at who start rows
-  pub done : (j : ℕ) → j < i → getD who j 0 ≡ getD order j 0
+  pub mapped : Mapped n place-of row-at start rows
+  pub done : (j : ℕ) → j < place → getD row-at j 0 ≡ getD order j 0
 
-pub place-starts : (n kept : ℕ) (order at who : List ℕ) (rows : List Row) → length rows ≡ n
-    → n ≤ length at → n ≤ length who → Own at → Own who → Placing n kept order at who rows rows 0
-place-starts n kept order at who rows all la lw oa ow =
-    record { upto = omega arith; all = all; mapped = mapped-own n at who rows la lw oa ow; done = λ j h. absurd (not-suc-le-zero h) }
+pub place-starts : (n kept : ℕ) (order place-of row-at : List ℕ) (rows : List Row) → length rows ≡ n
+    → Own n place-of → Own n row-at → Placing n kept order place-of row-at rows rows 0
+place-starts n kept order place-of row-at rows all a b =
+    record { upto = omega arith; all = all; mapped = mapped-own n place-of row-at rows a b; done = λ j h. absurd (not-suc-le-zero h) }
 
 -- what a turn may do, and what it leaves
-pub record Next (n kept : ℕ) (order at who : List ℕ) (start rows : List Row) (i : ℕ) : Type 0 where
-  pub o-in : getD order i 0 < length at
-  pub i-in : i < length who
-  pub p-in : getD at (getD order i 0) 0 < length who
-  pub w-in : getD who i 0 < length at
-  pub row-in : getD at (getD order i 0) 0 < n
+pub record Next (n kept : ℕ) (order place-of row-at : List ℕ) (start rows : List Row) (place : ℕ) : Type 0 where
+  pub incoming-in : getD order place 0 < length place-of
+  pub place-in : place < length row-at
+  pub from-in : getD place-of (getD order place 0) 0 < length row-at
+  pub displaced-in : getD row-at place 0 < length place-of
+  pub row-in : getD place-of (getD order place 0) 0 < n
   -- the next row is not among those that are placed
-  pub ahead : i ≤ getD at (getD order i 0) 0
-  pub next : (at′ who′ : List ℕ) (rows′ : List Row) → at′ ≡ set (set at (getD who i 0) (getD at (getD order i 0) 0)) (getD order i 0) i
-      → who′ ≡ set (set who (getD at (getD order i 0) 0) (getD who i 0)) i (getD order i 0) → rows′ ≡ exchange i (getD at (getD order i 0) 0) rows
-      → Placing n kept order at′ who′ start rows′ (i + 1)
+  pub ahead : place ≤ getD place-of (getD order place 0) 0
+  pub next : (place-of′ row-at′ : List ℕ) (rows′ : List Row)
+      → place-of′ ≡ set (set place-of (getD row-at place 0) (getD place-of (getD order place 0) 0)) (getD order place 0) place
+      → row-at′ ≡ set (set row-at (getD place-of (getD order place 0) 0) (getD row-at place 0)) place (getD order place 0)
+      → rows′ ≡ rowsSwapped place (getD place-of (getD order place 0) 0) rows
+      → Placing n kept order place-of′ row-at′ start rows′ (place + 1)
 
-module _ {n kept : ℕ} {order at who : List ℕ} {start rows : List Row} {i : ℕ} (N : Numbers n kept order)
-    (S : Placing n kept order at who start rows i) where
-  module _ (h : i < kept) where
-    abbrev o : ℕ
-    o = getD order i 0
+module _ {n kept : ℕ} {order place-of row-at : List ℕ} {start rows : List Row} {place : ℕ} (N : Numbers n kept order)
+    (S : Placing n kept order place-of row-at start rows place) where
+  module _ (h : place < kept) where
+    abbrev incoming : ℕ
+    incoming = getD order place 0
 
-    ho : o < n
-    ho = N .within i h
+    h-incoming : incoming < n
+    h-incoming = N .within place h
 
-    hi : i < n
-    hi = omega (arith, N .few)
+    h-place : place < n
+    h-place = omega (arith, N .few)
 
-    not-placed : i ≤ getD at o 0
-    not-placed = go (ltb (getD at o 0) i) refl
+    not-placed : place ≤ getD place-of incoming 0
+    not-placed = go (ltb (getD place-of incoming 0) place) refl
       where
-        go : (t : Bool) → ltb (getD at o 0) i ≡ t → i ≤ getD at o 0
+        go : (t : Bool) → ltb (getD place-of incoming 0) place ≡ t → place ≤ getD place-of incoming 0
         go true e =
-            let l = ltb-true (getD at o 0) i e in
-            absurd (N .apart (getD at o 0) i l h (sym (S .done (getD at o 0) l) ∙ S .mapped .back o ho))
-        go false e = ltb-false (getD at o 0) i e
+            let l = ltb-true (getD place-of incoming 0) place e in
+            absurd (N .apart (getD place-of incoming 0) place l h (sym (S .done (getD place-of incoming 0) l) ∙ S .mapped .back incoming h-incoming))
+        go false e = ltb-false (getD place-of incoming 0) place e
 
-    turned : (at′ who′ : List ℕ) (rows′ : List Row) → at′ ≡ set (set at (getD who i 0) (getD at o 0)) o i
-        → who′ ≡ set (set who (getD at o 0) (getD who i 0)) i o → rows′ ≡ exchange i (getD at o 0) rows → Placing n kept order at′ who′ start rows′ (i + 1)
-    turned at′ who′ rows′ ea ew er =
+    turned : (place-of′ row-at′ : List ℕ) (rows′ : List Row)
+        → place-of′ ≡ set (set place-of (getD row-at place 0) (getD place-of incoming 0)) incoming place
+        → row-at′ ≡ set (set row-at (getD place-of incoming 0) (getD row-at place 0)) place incoming
+        → rows′ ≡ rowsSwapped place (getD place-of incoming 0) rows → Placing n kept order place-of′ row-at′ start rows′ (place + 1)
+    turned place-of′ row-at′ rows′ ea ew er =
         record {
           upto = omega arith;
           all = rw er (simp length-set (S .all));
-          mapped = rw (er, ew, ea) (exchanged (S .mapped) (S .all) i o hi ho);
+          mapped = rw (er, ew, ea) (exchanged (S .mapped) (S .all) place incoming h-place h-incoming);
           done =
-              below-more (λ (j : ℕ). getD who′ j 0 ≡ getD order j 0) i
+              below-more (λ (j : ℕ). getD row-at′ j 0 ≡ getD order j 0) place
               (λ j l.
               ap (λ (z : List ℕ). getD z j 0) ew
-              ∙ who-other (S .mapped) (S .all) i o hi ho j (less-not l) (less-not (lt-of-lt-of-le l not-placed))
+              ∙ row-at-other (S .mapped) (S .all) place incoming h-place h-incoming j (less-not l) (less-not (lt-of-lt-of-le l not-placed))
               ∙ S .done j l)
-              (ap (λ (z : List ℕ). getD z i 0) ew ∙ who-first (S .mapped) (S .all) i o hi ho i refl);
+              (ap (λ (z : List ℕ). getD z place 0) ew ∙ row-at-first (S .mapped) (S .all) place incoming h-place h-incoming place refl);
         }
 
-    pub place-turn : Next n kept order at who start rows i
+    pub place-turn : Next n kept order place-of row-at start rows place
     place-turn =
         record {
-          o-in = lt-of-lt-of-le ho (S .mapped .at-all);
-          i-in = lt-of-lt-of-le hi (S .mapped .who-all);
-          p-in = lt-of-lt-of-le (S .mapped .at-in o ho) (S .mapped .who-all);
-          w-in = lt-of-lt-of-le (S .mapped .who-in i hi) (S .mapped .at-all);
-          row-in = S .mapped .at-in o ho;
+          incoming-in = lt-of-lt-of-le h-incoming (S .mapped .place-of-all);
+          place-in = lt-of-lt-of-le h-place (S .mapped .row-at-all);
+          from-in = lt-of-lt-of-le (S .mapped .place-of-in incoming h-incoming) (S .mapped .row-at-all);
+          displaced-in = lt-of-lt-of-le (S .mapped .row-at-in place h-place) (S .mapped .place-of-all);
+          row-in = S .mapped .place-of-in incoming h-incoming;
           ahead = not-placed;
           next = turned;
         }
 
-  pub placed : kept ≤ i → take kept rows ≡ map (rowAt start) (take kept order)
+  pub placed : kept ≤ place → take kept rows ≡ rowsNumbered kept order start
   placed h =
       let la : length (take kept rows) ≡ kept = length-take-le kept rows (omega (arith, N .few, S .all)) in
       let lb : length (take kept order) ≡ kept = length-take-le kept order (N .many) in
-      ext-getD (row [] []) (take kept rows) (map (rowAt start) (take kept order)) (la ∙ sym lb ∙ sym (length-map (take kept order) (rowAt start)))
+      ext-getD (row [] []) (take kept rows) (rowsNumbered kept order start) (la ∙ sym lb ∙ sym (length-map (take kept order) (rowAt start)))
       (λ j l.
       let jk : j < kept = omega (arith, la) in
       let jo : j < length (take kept order) = omega (arith, lb) in
@@ -265,15 +270,27 @@ module _ {n kept : ℕ} {order at who : List ℕ} {start rows : List Row} {i : �
       ∙ sym (map-get (rowAt start) (take kept order) j 0 (row [] []) jo))
 
 -- with the rest zeroed
-pub placed-stored : (s : Layout) {kept : ℕ} (start front : List Row) (order : List ℕ) → kept ≤ length order → front ≡ map (rowAt start) (take kept order)
-    → front ++ replicate (s .rows - kept) (zeroRow s) ≡ stored s (map (rowAt start) (take kept order))
+pub placed-stored : (s : Layout) {kept : ℕ} (start front : List Row) (order : List ℕ) → kept ≤ length order → front ≡ rowsNumbered kept order start
+    → front ++ replicate (s .rows - kept) (zeroRow s) ≡ stored s (rowsNumbered kept order start)
 placed-stored s {kept} start front order h e =
-    let rows = map (rowAt start) (take kept order) in
+    let rows = rowsNumbered kept order start in
     let l : length rows ≡ kept = length-map (take kept order) (rowAt start) ∙ length-take-le kept order h in
     ap (λ (z : List Row). z ++ replicate (s .rows - kept) (zeroRow s)) e ∙ ap (λ (k : ℕ). rows ++ replicate (s .rows - k) (zeroRow s)) (sym l)
 
 -- ---- every place its own number
 
-pub own-turn : (a : List ℕ) (i : ℕ) → i < length a → ((k : ℕ) → k < i → getD a k 0 ≡ k) → (k : ℕ) → k < i + 1 → getD (set a i i) k 0 ≡ k
-own-turn a i h o =
-    below-more (λ (k : ℕ). getD (set a i i) k 0 ≡ k) i (λ k l. getD-set-other a i k i 0 (less-not l) ∙ o k l) (getD-set-same a i i 0 h)
+pub own-none : (places : List ℕ) → Own 0 places
+own-none places = record { room = omega arith; own = λ k h. absurd (not-suc-le-zero h) }
+
+pub own-turn : (places : List ℕ) (place : ℕ) → place < length places → Own place places → Own (place + 1) (set places place place)
+own-turn places place h o =
+    record {
+      room = simp length-set (omega arith);
+      own =
+          below-more (λ (k : ℕ). getD (set places place place) k 0 ≡ k) place
+          (λ k l. getD-set-other places place k place 0 (less-not l) ∙ o .own k l)
+          (getD-set-same places place place 0 h);
+    }
+
+pub own-fewer : {n m : ℕ} {places : List ℕ} → Own m places → n ≤ m → Own n places
+own-fewer o h = record { room = omega (arith, o .room); own = λ k l. o .own k (lt-of-lt-of-le l h) }

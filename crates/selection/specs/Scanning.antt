@@ -1,4 +1,4 @@
--- What the search for the lowest row computes, row by row.
+-- A stepping stone between contracts: what the search for the lowest row computes, row by row.
 use mathlib.Core.Bool.{Bool, cond}
 use mathlib.Core.List.{List, [], _∷_}
 use Rattle.selection.specs.declared.order.ScoredRow.{ScoredRow}
@@ -10,6 +10,7 @@ use Rattle.selection.specs.Selecting.{lowerScore}
 unfoldable pub lowerOf : ScoredRow → ScoredRow → ScoredRow
 lowerOf b x = cond (lowerScore x b) x b
 
+-- the lowest so far, with a row more
 abbrev pub lowestOf : Lowest → ScoredRow → Lowest
 lowestOf None x = One x
 lowestOf (One b) x = One (lowerOf b x)
@@ -18,6 +19,7 @@ lowestOf (One b) x = One (lowerOf b x)
 abbrev pub considered : Bool → Lowest → ScoredRow → Lowest
 considered flag b x = cond flag (lowestOf b x) b
 
+-- with all rows of a list more
 unfoldable pub lowestIn : Lowest → List ScoredRow → Lowest
 lowestIn b [] = b
 lowestIn b (x ∷ xs) = lowestIn (lowestOf b x) xs

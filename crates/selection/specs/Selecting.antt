@@ -1,4 +1,5 @@
--- The selection as the code makes it: on the numbers of the rows, and then on the rows.
+-- A stepping stone between contracts: the selection as the code makes it, on the numbers of the rows and then on the rows.
+-- `kept-states` in proofs/States shows it to be that of the rounds.
 use mathlib.Core.Bool.{Bool, cond}
 use mathlib.Core.List.{List, [], _∷_, map}
 use Prim.Native.Nat.{ℕ, suc}
@@ -14,9 +15,11 @@ candidates i [] flags = []
 candidates i (s ∷ scores) [] = []
 candidates i (s ∷ scores) (f ∷ flags) = cond f (record { row = i; score = s } ∷ candidates (suc i) scores flags) (candidates (suc i) scores flags)
 
+-- whether the first has the lower score
 abbrev pub lowerScore : ScoredRow → ScoredRow → Bool
 lowerScore x y = lt (x .score) (y .score)
 
+-- the number of a row
 abbrev pub numberOf : ScoredRow → ℕ
 numberOf x = x .row
 

@@ -9,6 +9,7 @@ ghost use Rattle.selection.specs.Selecting.{keptNumbers, keptRows};
 pub mod order;
 pub mod places;
 
+use rows::limits::MOST_ROWS;
 use store::layout::Layout;
 
 // Keeps the rows whose flag is set with the lowest scores, at most `selection` of them, in rising order, equals in row order.
@@ -21,12 +22,14 @@ pub fn select_rarest(
     flags: &[bool],
     selection: usize,
 ) -> usize
-    requires { ⌜ Fit store (now words) (now marks) ⌝ ∗ ⌜ length (now scores) ≡ store .rows ⌝ ∗ ⌜ length (now flags) ≡ store .rows ⌝ }
-    ensures { λ r. ⌜ r ≡ length (keptNumbers selection (now (scores .entry)) (now (flags .entry))) ⌝
-        ∗ ⌜ rowsOf store (now (words .exit)) (now (marks .exit))
+    requires { ⌜ Fit store (now words) (now marks) ⌝ }
+    requires { ⌜ length (now scores) ≡ store .rows ⌝ }
+    requires { ⌜ length (now flags) ≡ store .rows ⌝ }
+    ensures { λ kept. ⌜ kept ≡ length (keptNumbers selection (now (scores .entry)) (now (flags .entry))) ⌝ }
+    ensures { λ _. ⌜ rowsOf store (now (words .exit)) (now (marks .exit))
         ≡ stored store (keptRows selection (now (scores .entry)) (now (flags .entry)) (rowsOf store (now (words .entry)) (now (marks .entry)))) ⌝ }
 {
-    let mut order = [0usize; 4096];
+    let mut order = [0usize; MOST_ROWS];
     let kept = order::order_of(scores, flags, &mut order, selection);
     places::move_kept(words, marks, store, &order, kept);
     kept

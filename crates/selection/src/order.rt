@@ -3,9 +3,11 @@ ghost use mathlib.Core.Path.{_≡_};
 ghost use mathlib.Core.List.{_++_};
 ghost use Prim.Native.Nat.{_≤_};
 ghost use lib.ListN.{length, take, drop};
+ghost use Rattle.rows.specs.Limits.{mostRows};
 ghost use Rattle.selection.specs.declared.order.Lowest.the-variants.{None};
 ghost use Rattle.selection.specs.Selecting.{candidates, keptNumbers};
 ghost use Rattle.selection.specs.Scanning.{lowerOf, considered, lowestIn};
+use rows::limits::MOST_ROWS;
 
 // A row number and its score.
 pub struct ScoredRow {
@@ -65,9 +67,10 @@ fn next_rarest(scores: &[f64], live: &[bool]) -> Lowest
 
 // The numbers of the rows to keep, in the order in which they are kept. The flag of each is cleared.
 fn find_order(scores: &[f64], live: &mut [bool], order: &mut [usize], selection: usize) -> usize
-    requires { ⌜ length (now scores) ≤ length (now live) ⌝ ∗ ⌜ length (now scores) ≤ length (now order) ⌝ }
-    ensures { λ r. ⌜ r ≡ length (keptNumbers selection (now (scores .entry)) (now (live .entry))) ⌝
-        ∗ ⌜ take r (now (order .exit)) ≡ keptNumbers selection (now (scores .entry)) (now (live .entry)) ⌝ }
+    requires { ⌜ length (now scores) ≤ length (now live) ⌝ }
+    requires { ⌜ length (now scores) ≤ length (now order) ⌝ }
+    ensures { λ kept. ⌜ kept ≡ length (keptNumbers selection (now (scores .entry)) (now (live .entry))) ⌝ }
+    ensures { λ kept. ⌜ take kept (now (order .exit)) ≡ keptNumbers selection (now (scores .entry)) (now (live .entry)) ⌝ }
 {
     let mut kept = 0;
     while kept < selection {
@@ -105,11 +108,13 @@ pub(crate) fn order_of(
     order: &mut [usize],
     selection: usize,
 ) -> usize
-    requires { ⌜ length (now scores) ≤ length (now flags) ⌝ ∗ ⌜ length (now flags) ≤ 4096 ⌝ ∗ ⌜ length (now scores) ≤ length (now order) ⌝ }
-    ensures { λ r. ⌜ r ≡ length (keptNumbers selection (now (scores .entry)) (now (flags .entry))) ⌝
-        ∗ ⌜ take r (now (order .exit)) ≡ keptNumbers selection (now (scores .entry)) (now (flags .entry)) ⌝ }
+    requires { ⌜ length (now scores) ≤ length (now flags) ⌝ }
+    requires { ⌜ length (now flags) ≤ mostRows ⌝ }
+    requires { ⌜ length (now scores) ≤ length (now order) ⌝ }
+    ensures { λ kept. ⌜ kept ≡ length (keptNumbers selection (now (scores .entry)) (now (flags .entry))) ⌝ }
+    ensures { λ kept. ⌜ take kept (now (order .exit)) ≡ keptNumbers selection (now (scores .entry)) (now (flags .entry)) ⌝ }
 {
-    let mut live = [false; 4096];
+    let mut live = [false; MOST_ROWS];
     copy_flags(flags, &mut live);
     find_order(scores, &mut live, order, selection)
 }

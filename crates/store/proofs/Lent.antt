@@ -1,22 +1,18 @@
--- Lent lengths that an entry accepts are those of its store.
+-- Lists of the lengths that a store within its bounds has fit it.
 use mathlib.Core.Path.{_≡_}
-use mathlib.Core.Bool.{true}
 use mathlib.Core.List.{List}
-use Prim.Native.Nat.{ℕ, _/_}
+use Prim.Native.Nat.{ℕ, _*_, _<_, _≤_}
 use native.Mathlib.Omega.{arith}
 use lib.ListN.{length}
-use Rattle.checks.specs.Refusals.{isMemorySize, isAmountOfStates, areLengths}
-use Rattle.checks.proofs.Passed.{memory-size, amount-of-states, lengths}
+use Rattle.rows.specs.Rows.{rowWords, rowMarks}
+use Rattle.rows.specs.Limits.{mostRows, mostMemory}
 use Rattle.store.specs.Store.{layout, Fit}
 
-pub lengths-fit : (memory log rows : ℕ) (words marks : List ℕ) → isMemorySize memory ≡ true → isAmountOfStates rows ≡ true
-    → areLengths rows (memory / 8) log (length words) (length marks) ≡ true → Fit (layout rows (memory / 8) log) words marks
-lengths-fit memory log rows words marks m r l =
-    let b = memory-size memory m in
-    let n = amount-of-states rows r in
-    let e = lengths rows (memory / 8) log (length words) (length marks) l in
+pub lengths-fit : (rows w l : ℕ) {words marks : List ℕ} → rows ≤ mostRows → 0 < w → w ≤ mostMemory
+    → length words ≡ rows * rowWords w l → length marks ≡ rows * rowMarks w → Fit (layout rows w l) words marks
+lengths-fit rows w l few some most all-words all-marks =
     record {
-      sized = record { few = n .1; registers = omega (arith, b .1); memory = omega (arith, b .2); slots = omega arith };
-      all-words = e .0;
-      all-marks = e .1;
+      sized = record { few = few; registers = omega arith; memory = omega arith; slots = omega arith };
+      all-words = all-words;
+      all-marks = all-marks;
     }

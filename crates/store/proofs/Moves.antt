@@ -43,7 +43,8 @@ use lib.Seq.{
 }
 use Rattle.rows.specs.Rows.{Row, row}
 use Rattle.store.specs.declared.layout.Layout.{Layout}
-use Rattle.store.specs.Store.{cut, rowsOf, rowAt, zeroRow, exchange, Fit}
+use Rattle.store.specs.Store.{cut, rowsOf, rowAt, zeroRow, rowCopied, rowsSwapped, rowsZeroed, Fit}
+use Rattle.store.specs.Parts.{partCopied, partsSwapped}
 use Rattle.store.proofs.Rows.{row-end, row-get, row-put, part-length}
 
 -- ---- one list pasted over a part of another
@@ -84,7 +85,7 @@ paste-is-put {A} d s at n =
 pub record Copied (from to count i : ℕ) (before now : List ℕ) : Type 0 where
   pub within : i ≤ count
   pub same : length now ≡ length before
-  pub copied : now ≡ paste before to (drop from before) i
+  pub copied : now ≡ partCopied from to i before
 
 module _ (from to count : ℕ) (before : List ℕ) where
   pub copy-none : Copied from to count 0 before before
@@ -98,36 +99,33 @@ module _ (from to count : ℕ) (before : List ℕ) where
         same = simp length-set (c .same);
         copied =
             ap (λ (k : List ℕ). set k (to + i) (getD k (from + i) 0)) (c .copied)
-            ∙ ap (λ (x : ℕ). set (paste before to (drop from before) i) (to + i) x)
+            ∙ ap (λ (x : ℕ). set (partCopied from to i before) (to + i) x)
             (paste-before before (drop from before) to i (from + i) 0 (omega arith) (omega arith) ∙ sym (getD-drop from before i 0))
             ∙ paste-suc before to (drop from before) i 0 (omega arith) (omega (arith, length-drop from before))
-            ∙ ap (λ (k : ℕ). paste before to (drop from before) k) (sym (add-one i));
+            ∙ ap (λ (k : ℕ). partCopied from to k before) (sym (add-one i));
       }
 
-  pub copy-all : (i : ℕ) (now : List ℕ) → count ≤ i → Copied from to count i before now → now ≡ paste before to (drop from before) count
+  pub copy-all : (i : ℕ) (now : List ℕ) → count ≤ i → Copied from to count i before now → now ≡ partCopied from to count before
   copy-all i now h c =
       let e : i ≡ count = omega arith in
-      c .copied ∙ ap (λ (k : ℕ). paste before to (drop from before) k) e
+      c .copied ∙ ap (λ (k : ℕ). partCopied from to k before) e
 
 -- ---- two parts that change places
-
-abbrev swapped : List ℕ → ℕ → ℕ → ℕ → List ℕ
-swapped l a b n = paste (paste l a (drop b l) n) b (drop a l) n
 
 -- the first i of `count` elements of each
 pub record Swapped (a b count i : ℕ) (before now : List ℕ) : Type 0 where
   pub within : i ≤ count
   pub same : length now ≡ length before
-  pub places : now ≡ swapped before a b i
+  pub places : now ≡ partsSwapped a b i before
 
 module _ (a b count : ℕ) (d : List ℕ) where
   pub swap-none : Swapped a b count 0 d d
   swap-none = record { within = omega arith; same = refl; places = paste-zero d a (drop b d) ∙ paste-zero (paste d a (drop b d) 0) b (drop a d) }
 
-  pub swap-all : (i : ℕ) (now : List ℕ) → count ≤ i → Swapped a b count i d now → now ≡ swapped d a b count
+  pub swap-all : (i : ℕ) (now : List ℕ) → count ≤ i → Swapped a b count i d now → now ≡ partsSwapped a b count d
   swap-all i now h c =
       let e : i ≡ count = omega arith in
-      c .places ∙ ap (λ (k : ℕ). swapped d a b k) e
+      c .places ∙ ap (λ (k : ℕ). partsSwapped a b k d) e
 
   module _ (ab : a + count ≤ b) (bl : b + count ≤ length d) where
     inner : ℕ → List ℕ
@@ -138,21 +136,21 @@ module _ (a b count : ℕ) (d : List ℕ) where
     length-inner i h = length-paste d a (drop b d) i (omega arith) (omega (arith, length-drop b d))
 
     -- what stands at a + i and at b + i before turn i
-    low-stays : (i : ℕ) → i < count → getD (swapped d a b i) (a + i) 0 ≡ getD (drop a d) i 0
+    low-stays : (i : ℕ) → i < count → getD (partsSwapped a b i d) (a + i) 0 ≡ getD (drop a d) i 0
     unfolding inner
     low-stays i h =
         paste-before (inner i) (drop a d) b i (a + i) 0 (omega arith) (omega (arith, length-inner i (omega arith)))
         ∙ paste-after d (drop b d) a i (a + i) 0 (omega arith) (omega arith) (omega (arith, length-drop b d))
         ∙ sym (getD-drop a d i 0)
 
-    high-stays : (i : ℕ) → i < count → getD (swapped d a b i) (b + i) 0 ≡ getD (drop b d) i 0
+    high-stays : (i : ℕ) → i < count → getD (partsSwapped a b i d) (b + i) 0 ≡ getD (drop b d) i 0
     unfolding inner
     high-stays i h =
         paste-after (inner i) (drop a d) b i (b + i) 0 (omega arith) (omega (arith, length-inner i (omega arith))) (omega (arith, length-drop a d))
         ∙ paste-after d (drop b d) a i (b + i) 0 (omega arith) (omega arith) (omega (arith, length-drop b d))
         ∙ sym (getD-drop b d i 0)
 
-    swap-more : (i : ℕ) → i < count → set (set (swapped d a b i) (a + i) (getD (drop b d) i 0)) (b + i) (getD (drop a d) i 0) ≡ swapped d a b (i + 1)
+    swap-more : (i : ℕ) → i < count → set (set (partsSwapped a b i d) (a + i) (getD (drop b d) i 0)) (b + i) (getD (drop a d) i 0) ≡ partsSwapped a b (i + 1) d
     unfolding inner
     swap-more i h =
         ap (λ (k : List ℕ). set k (b + i) (getD (drop a d) i 0))
@@ -177,8 +175,7 @@ module _ (a b count : ℕ) (d : List ℕ) where
 
 -- the elements of row `from` pasted over those of row `to`
 pub rows-copy : (n w m from to : ℕ) (words marks : List ℕ) → length words ≡ n * w → length marks ≡ n * m → from < n → to < n
-    → cut n w m (paste words (to * w) (drop (from * w) words) w) (paste marks (to * m) (drop (from * m) marks) m)
-    ≡ set (cut n w m words marks) to (rowAt (cut n w m words marks) from)
+    → cut n w m (partCopied (from * w) (to * w) w words) (partCopied (from * m) (to * m) m marks) ≡ rowCopied from to (cut n w m words marks)
 rows-copy n w m from to words marks ew em hf ht =
     rw (paste-is-put words (drop (from * w) words) (to * w) w, paste-is-put marks (drop (from * m) marks) (to * m) m)
     (row-put n w m to words marks (take w (drop (from * w) words)) (take m (drop (from * m) marks)) ht ew em
@@ -186,9 +183,9 @@ rows-copy n w m from to words marks ew em hf ht =
     ∙ ap (λ (z : Row). set (cut n w m words marks) to z) (sym (row-get n w m from words marks hf)))
 
 -- rows i and p, i the earlier, change places
-pub rows-exchange : (n w m i p : ℕ) (words marks : List ℕ) → length words ≡ n * w → length marks ≡ n * m → i < p → p < n
-    → cut n w m (swapped words (i * w) (p * w) w) (swapped marks (i * m) (p * m) m) ≡ exchange i p (cut n w m words marks)
-rows-exchange n w m i p words marks ew em ip h =
+pub rows-swap : (n w m i p : ℕ) (words marks : List ℕ) → length words ≡ n * w → length marks ≡ n * m → i < p → p < n
+    → cut n w m (partsSwapped (i * w) (p * w) w words) (partsSwapped (i * m) (p * m) m marks) ≡ rowsSwapped i p (cut n w m words marks)
+rows-swap n w m i p words marks ew em ip h =
     let hi : i < n = omega arith in
     let ws = paste words (i * w) (drop (p * w) words) w in
     let ms = paste marks (i * m) (drop (p * m) marks) m in
@@ -205,8 +202,8 @@ rows-exchange n w m i p words marks ew em ip h =
         length-paste l (i * k) (drop (p * k) l) k (omega (arith, row-end n k i hi, e)) (omega (arith, length-drop (p * k) l, row-end n k p h, e)) ∙ e
 
 -- a row that changes places with itself
-pub exchange-self : (i p : ℕ) (rows : List Row) → i ≡ p → rows ≡ exchange i p rows
-exchange-self i p rows e =
+pub swap-self : (i p : ℕ) (rows : List Row) → i ≡ p → rows ≡ rowsSwapped i p rows
+swap-self i p rows e =
     sym (ap (λ (k : ℕ). set (set rows k (rowAt rows p)) p (rowAt rows k)) e ∙ set-set rows p (rowAt rows p) (rowAt rows p) ∙ set-getD rows p (row [] []))
 
 -- the rows from `from` to r are zero, and the others as before
@@ -256,7 +253,7 @@ module _ (s : Layout) (from : ℕ) where
       }
 
   pub zero-all : (before : List Row) (words marks : List ℕ) (r : ℕ) → length before ≡ s .rows → s .rows ≤ r → Zeroed s from r before words marks
-      → rowsOf s words marks ≡ take from before ++ replicate (s .rows - from) (zeroRow s)
+      → rowsOf s words marks ≡ rowsZeroed s from before
   zero-all before words marks r l h c =
       let e : r ≡ s .rows = omega (arith, c .within) in
       c .zeros

@@ -1,10 +1,16 @@
 -- The lent store ("A row" in document 01): a list of rows, and the two flat lists that hold them one after the other.
 use mathlib.Core.List.{List, [], _∷_, _++_}
 use mathlib.Core.Path.{_≡_}
-use Prim.Native.Nat.{ℕ, zero, suc, _+_, _*_, _<_, _≤_}
-use lib.ListN.{length, getD, set, take, drop}
+use Prim.Native.Nat.{ℕ, zero, suc, _+_, _-_, _*_, _<_, _≤_}
+use lib.ListN.{length, getD, set, take, drop, replicate}
+use Rattle.values.specs.Values.{registerCount}
+use Rattle.rows.specs.Limits.{mostRows, mostMemory}
 use Rattle.rows.specs.Rows.{Row, row, blank, header, rowWords, rowMarks}
 use Rattle.store.specs.declared.layout.Layout.{Layout}
+
+-- the most marks of a row
+abbrev pub mostMarks : ℕ
+mostMarks = rowMarks mostMemory
 
 -- so many rows, of W memory words and L log words each
 abbrev pub layout : ℕ → ℕ → ℕ → Layout
@@ -19,7 +25,7 @@ cut (suc n) w m words marks = row (take w words) (take m marks) ∷ cut n w m (d
 abbrev pub rowsOf : Layout → List ℕ → List ℕ → List Row
 rowsOf s words marks = cut (s .rows) (s .words) (s .marks) words marks
 
--- the two flat lists of some rows
+-- the words of some rows, one row after the other, and their marks
 unfoldable pub wordsOf : List Row → List ℕ
 wordsOf [] = []
 wordsOf (r ∷ rs) = r .words ++ wordsOf rs
@@ -32,18 +38,27 @@ marksOf (r ∷ rs) = r .marks ++ marksOf rs
 abbrev pub rowAt : List Row → ℕ → Row
 rowAt rows i = getD rows i (row [] [])
 
+-- a row of zeros
 abbrev pub zeroRow : Layout → Row
 zeroRow s = blank (s .words) (s .marks)
 
--- rows i and p change places
-abbrev pub exchange : ℕ → ℕ → List Row → List Row
-exchange i p rows = set (set rows i (rowAt rows p)) p (rowAt rows i)
+-- row `from` is copied over row `to`
+abbrev pub rowCopied : ℕ → ℕ → List Row → List Row
+rowCopied from to rows = set rows to (rowAt rows from)
+
+-- rows a and b change places
+abbrev pub rowsSwapped : ℕ → ℕ → List Row → List Row
+rowsSwapped a b rows = set (set rows a (rowAt rows b)) b (rowAt rows a)
+
+-- the rows from `from` on become zero
+abbrev pub rowsZeroed : Layout → ℕ → List Row → List Row
+rowsZeroed s from rows = take from rows ++ replicate (s .rows - from) (zeroRow s)
 
 -- what document 01 allows of a store: at most 4,096 rows, memory of some words and at most 1 MiB, a word for each mark
 pub record Sized (s : Layout) : Type 0 where
-  pub few : s .rows ≤ 4096
-  pub registers : 32 < s .marks
-  pub memory : s .marks ≤ 131104
+  pub few : s .rows ≤ mostRows
+  pub registers : registerCount < s .marks
+  pub memory : s .marks ≤ mostMarks
   pub slots : s .marks + header ≤ s .words
 
 -- two lists of just the lengths of a store

@@ -1,6 +1,7 @@
 // How a store is cut into rows.
 ghost use mathlib.Core.Path.{_≡_};
 ghost use Prim.Native.Nat.{_≤_};
+ghost use Rattle.rows.specs.Limits.{mostMemory, mostLog};
 ghost use Rattle.store.specs.Store.{layout};
 use rows::row::HEADER;
 use rows::row::REGISTERS;
@@ -15,7 +16,8 @@ pub struct Layout {
 impl Layout {
     // For rows of `memory` memory words and `log` log words each.
     pub fn new(rows: usize, memory: u64, log: u64) -> Layout
-        requires { ⌜ memory ≤ 131072 ⌝ ∗ ⌜ log ≤ 65536 ⌝ }
+        requires { ⌜ memory ≤ mostMemory ⌝ }
+        requires { ⌜ log ≤ mostLog ⌝ }
         ensures { λ r. ⌜ r ≡ layout rows memory log ⌝ }
     {
         Layout {

@@ -1,15 +1,16 @@
 // Two rows that change places.
 ghost use mathlib.Core.Path.{_≡_};
 ghost use Prim.Native.Nat.{_+_, _≤_, _<_};
-ghost use lib.ListN.{length, drop};
-ghost use lib.Seq.{paste};
-ghost use Rattle.store.specs.Store.{Fit, rowsOf, exchange};
+ghost use lib.ListN.{length};
+ghost use Rattle.store.specs.Store.{Fit, rowsOf, rowsSwapped};
+ghost use Rattle.store.specs.Parts.{partsSwapped};
 use crate::layout::Layout;
 
 // `count` elements from place a on and from place b on change places.
 fn swap_words(words: &mut [u64], a: usize, b: usize, count: usize)
-    requires { ⌜ a + count ≤ b ⌝ ∗ ⌜ b + count ≤ length (now words) ⌝ }
-    ensures { λ _. ⌜ now (words .exit) ≡ paste (paste (now (words .entry)) a (drop b (now (words .entry))) count) b (drop a (now (words .entry))) count ⌝ }
+    requires { ⌜ a + count ≤ b ⌝ }
+    requires { ⌜ b + count ≤ length (now words) ⌝ }
+    ensures { λ _. ⌜ now (words .exit) ≡ partsSwapped a b count (now (words .entry)) ⌝ }
 {
     let mut i = 0;
     while i < count {
@@ -21,8 +22,9 @@ fn swap_words(words: &mut [u64], a: usize, b: usize, count: usize)
 }
 
 fn swap_marks(marks: &mut [u8], a: usize, b: usize, count: usize)
-    requires { ⌜ a + count ≤ b ⌝ ∗ ⌜ b + count ≤ length (now marks) ⌝ }
-    ensures { λ _. ⌜ now (marks .exit) ≡ paste (paste (now (marks .entry)) a (drop b (now (marks .entry))) count) b (drop a (now (marks .entry))) count ⌝ }
+    requires { ⌜ a + count ≤ b ⌝ }
+    requires { ⌜ b + count ≤ length (now marks) ⌝ }
+    ensures { λ _. ⌜ now (marks .exit) ≡ partsSwapped a b count (now (marks .entry)) ⌝ }
 {
     let mut i = 0;
     while i < count {
@@ -33,13 +35,15 @@ fn swap_marks(marks: &mut [u8], a: usize, b: usize, count: usize)
     }
 }
 
-// Rows i and p change places; they may be one row.
-pub fn swap_rows(words: &mut [u64], marks: &mut [u8], store: Layout, i: usize, p: usize)
-    requires { ⌜ Fit store (now words) (now marks) ⌝ ∗ ⌜ i ≤ p ⌝ ∗ ⌜ p < store .rows ⌝ }
-    ensures { λ _. ⌜ rowsOf store (now (words .exit)) (now (marks .exit)) ≡ exchange i p (rowsOf store (now (words .entry)) (now (marks .entry))) ⌝ }
+// Rows a and b change places; they may be one row.
+pub fn swap_rows(words: &mut [u64], marks: &mut [u8], store: Layout, a: usize, b: usize)
+    requires { ⌜ Fit store (now words) (now marks) ⌝ }
+    requires { ⌜ a ≤ b ⌝ }
+    requires { ⌜ b < store .rows ⌝ }
+    ensures { λ _. ⌜ rowsOf store (now (words .exit)) (now (marks .exit)) ≡ rowsSwapped a b (rowsOf store (now (words .entry)) (now (marks .entry))) ⌝ }
 {
-    if i < p {
-        swap_words(words, i * store.words, p * store.words, store.words);
-        swap_marks(marks, i * store.marks, p * store.marks, store.marks);
+    if a < b {
+        swap_words(words, a * store.words, b * store.words, store.words);
+        swap_marks(marks, a * store.marks, b * store.marks, store.marks);
     }
 }

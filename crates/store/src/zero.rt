@@ -1,15 +1,15 @@
 // Rows set to zero.
 ghost use mathlib.Core.Path.{_≡_};
-ghost use mathlib.Core.List.{_++_};
-ghost use Prim.Native.Nat.{_-_, _≤_, _<_};
-ghost use lib.ListN.{take, set, replicate};
-ghost use Rattle.store.specs.Store.{Fit, rowsOf, zeroRow};
+ghost use Prim.Native.Nat.{_≤_, _<_};
+ghost use lib.ListN.{set};
+ghost use Rattle.store.specs.Store.{Fit, rowsOf, zeroRow, rowsZeroed};
 use crate::layout::Layout;
 use rows::clear::clear_marks;
 use rows::clear::clear_words;
 
 fn zero_row(words: &mut [u64], marks: &mut [u8], store: Layout, r: usize)
-    requires { ⌜ Fit store (now words) (now marks) ⌝ ∗ ⌜ r < store .rows ⌝ }
+    requires { ⌜ Fit store (now words) (now marks) ⌝ }
+    requires { ⌜ r < store .rows ⌝ }
     ensures { λ _. ⌜ rowsOf store (now (words .exit)) (now (marks .exit)) ≡ set (rowsOf store (now (words .entry)) (now (marks .entry))) r (zeroRow store) ⌝ }
 {
     let from_word = r * store.words;
@@ -20,9 +20,9 @@ fn zero_row(words: &mut [u64], marks: &mut [u8], store: Layout, r: usize)
 
 // The rows from `from` on become zero.
 pub fn zero_rows(words: &mut [u64], marks: &mut [u8], store: Layout, from: usize)
-    requires { ⌜ Fit store (now words) (now marks) ⌝ ∗ ⌜ from ≤ store .rows ⌝ }
-    ensures { λ _. ⌜ rowsOf store (now (words .exit)) (now (marks .exit))
-        ≡ take from (rowsOf store (now (words .entry)) (now (marks .entry))) ++ replicate (store .rows - from) (zeroRow store) ⌝ }
+    requires { ⌜ Fit store (now words) (now marks) ⌝ }
+    requires { ⌜ from ≤ store .rows ⌝ }
+    ensures { λ _. ⌜ rowsOf store (now (words .exit)) (now (marks .exit)) ≡ rowsZeroed store from (rowsOf store (now (words .entry)) (now (marks .entry))) ⌝ }
 {
     let mut r = from;
     while r < store.rows {

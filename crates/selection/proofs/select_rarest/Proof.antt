@@ -4,7 +4,7 @@ use mathlib.Core.Path.{ap, _∙_}
 use Prim.Native.Nat.{ℕ}
 use Rattle.store.specs.Store.{rowsOf, rowAt}
 use Rattle.rounds.specs.Rounds.{stored}
-use Rattle.selection.proofs.Kept.{numbers}
+use Rattle.selection.proofs.KeptNumbers.{numbers}
 use borrow.Author.Needs.{needs}
 use Rattle.selection.proofs.select_rarest.Statement.{statement}
 use Rattle.selection.proofs.select_rarest.Tie as tie

@@ -1,6 +1,7 @@
 use mathlib.Core.Bool.{false}
 use mathlib.Core.Path.{ap, _∙_}
 use lib.ListN.{length, drop, replicate}
+use Rattle.rows.specs.Limits.{mostRows}
 use Rattle.selection.proofs.Finding.{copy-keeps}
 use borrow.Author.Needs.{needs}
 use Rattle.selection.proofs.order.order_of.Statement.{statement}
@@ -27,7 +28,7 @@ returns c =
     let a = s .args in
     let k = c .before .before .before .before .before .before .before .copy-flags in
     let f = c .before .before .before .find-order in
-    let more = drop (length (a .flags .now)) (replicate 4096 false) in
+    let more = drop (length (a .flags .now)) (replicate mostRows false) in
     let same = copy-keeps (a .selection) (a .scores .now) (a .flags .now) (k .last .1 .0) more (s .pre .0) (k .ensures) in
     (f .ensures .0 ∙ ap length same, f .ensures .1 ∙ same)
 

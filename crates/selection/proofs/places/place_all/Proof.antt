@@ -9,14 +9,14 @@ use Rattle.selection.proofs.places.place_all.Statement.{statement}
 use Rattle.selection.proofs.places.place_all.Tie as tie
 
 abbrev Inv-loop : tie.InvT-loop
-Inv-loop words₀ marks₀ store at₀ who₀ order kept i₀ words marks at who i =
-    Placing (store .rows) kept order at who (rowsOf store words₀ marks₀) (rowsOf store words marks) i
+Inv-loop words₀ marks₀ store place-of₀ row-at₀ order kept place₀ words marks place-of row-at place =
+    Placing (store .rows) kept order place-of row-at (rowsOf store words₀ marks₀) (rowsOf store words marks) place
     × Fit store words marks
-    × (length at ≡ length at₀)
-    × (length who ≡ length who₀)
+    × (length place-of ≡ length place-of₀)
+    × (length row-at ≡ length row-at₀)
 
 abbrev μ-loop : tie.MeasureT-loop
-μ-loop words₀ marks₀ store at₀ who₀ order kept i₀ words marks at who i = kept - i
+μ-loop words₀ marks₀ store place-of₀ row-at₀ order kept place₀ words marks place-of row-at place = kept - place
 
 loop-holds : tie.Need-loop-holds Inv-loop μ-loop
 loop-holds c =
@@ -24,43 +24,43 @@ loop-holds c =
     let a = s .args in
     let q = s .pre .1 .1 in
     let all = length-rows (a .store .rows) (a .store .words) (a .store .marks) (a .words .now) (a .marks .now) in
-    (place-starts _ _ _ _ _ _ all (q .0) (q .1) (q .2) (q .3), s .pre .0, refl, refl)
+    (place-starts _ _ _ _ _ _ all (q .0) (q .1), s .pre .0, refl, refl)
 
-mul-o : tie.Need-mul-o Inv-loop μ-loop
-mul-o c =
+mul-incoming : tie.Need-mul-incoming Inv-loop μ-loop
+mul-incoming c =
     let s = c .before .before .before .before .before .before .before in
     omega (arith, s .pre .1 .0 .many, c .loop-test .taken, s .good)
 
-shared-slice-read-o : tie.Need-shared-slice-read-o Inv-loop μ-loop
-shared-slice-read-o c = omega (arith, c .before .before .before .before .before .before .before .before .pre .1 .0 .many, c .before .loop-test .taken)
+shared-slice-read-incoming : tie.Need-shared-slice-read-incoming Inv-loop μ-loop
+shared-slice-read-incoming c = omega (arith, c .before .before .before .before .before .before .before .before .pre .1 .0 .many, c .before .loop-test .taken)
 
-mul-p : tie.Need-mul-p Inv-loop μ-loop
-mul-p c =
+mul-from : tie.Need-mul-from Inv-loop μ-loop
+mul-from c =
     let s = c .before .before .before .before .before .before .before .before in
     let l = c .before .before .loop in
     let t = place-turn (s .pre .1 .0) (l .inv .0) (c .before .loop-test .taken) in
-    omega (arith, t .o-in, l .inv .2, s .good)
+    omega (arith, t .incoming-in, l .inv .2, s .good)
 
-slice-read-p : tie.Need-slice-read-p Inv-loop μ-loop
-slice-read-p c =
+slice-read-from : tie.Need-slice-read-from Inv-loop μ-loop
+slice-read-from c =
     let w = c .before .before in
     let l = w .before .loop in
     let t = place-turn (w .before .before .before .before .before .before .before .pre .1 .0) (l .inv .0) (w .loop-test .taken) in
-    t .o-in
+    t .incoming-in
 
-mul-w : tie.Need-mul-w Inv-loop μ-loop
-mul-w c =
+mul-displaced : tie.Need-mul-displaced Inv-loop μ-loop
+mul-displaced c =
     let s = c .before .before .before .before .before .before .before .before .before in
     let l = c .before .before .before .loop in
     let t = place-turn (s .pre .1 .0) (l .inv .0) (c .before .before .loop-test .taken) in
-    omega (arith, t .i-in, l .inv .3, s .good)
+    omega (arith, t .place-in, l .inv .3, s .good)
 
-slice-read-w : tie.Need-slice-read-w Inv-loop μ-loop
-slice-read-w c =
+slice-read-displaced : tie.Need-slice-read-displaced Inv-loop μ-loop
+slice-read-displaced c =
     let w = c .before .before .before in
     let l = w .before .loop in
     let t = place-turn (w .before .before .before .before .before .before .before .pre .1 .0) (l .inv .0) (w .loop-test .taken) in
-    t .i-in
+    t .place-in
 
 swap-rows-requires : tie.Need-swap-rows-requires Inv-loop μ-loop
 swap-rows-requires c κs =
@@ -74,10 +74,10 @@ note-requires c κs =
     let w = c .before .before .before .before .before .before .before .before .before .before .before .before in
     let l = w .before .loop in
     let t = place-turn (w .before .before .before .before .before .before .before .pre .1 .0) (l .inv .0) (w .loop-test .taken) in
-    (t .i-in, (t .p-in, (t .o-in, t .w-in)))
+    (t .place-in, (t .from-in, (t .incoming-in, t .displaced-in)))
 
-add-i : tie.Need-add-i Inv-loop μ-loop
-add-i c =
+add-place : tie.Need-add-place Inv-loop μ-loop
+add-place c =
     let w = c .before .before .before .before .before .before .before .before .before .before .before .before .before .before .before .before .before in
     let s = w .before .before .before .before .before .before .before in
     omega (arith, w .loop-test .taken, s .fits .kept)
@@ -123,15 +123,15 @@ place-all-spec =
     Inv-loop
     μ-loop
     loop-holds
-    mul-o
-    shared-slice-read-o
-    mul-p
-    slice-read-p
-    mul-w
-    slice-read-w
+    mul-incoming
+    shared-slice-read-incoming
+    mul-from
+    slice-read-from
+    mul-displaced
+    slice-read-displaced
     swap-rows-requires
     note-requires
-    add-i
+    add-place
     loop-less
     loop-again
     same-length

@@ -2,7 +2,7 @@ use native.Mathlib.Omega.{arith}
 use mathlib.Core.Path.{_≡_}
 use Rattle.store.specs.Store.{rowsOf}
 use Rattle.store.proofs.Rows.{row-end, words-end, marks-end}
-use Rattle.store.proofs.Moves.{rows-exchange, exchange-self}
+use Rattle.store.proofs.Moves.{rows-swap, swap-self}
 use borrow.Author.Needs.{needs}
 use Rattle.store.proofs.swap.swap_rows.Statement.{statement}
 use Rattle.store.proofs.swap.swap_rows.Tie as tie
@@ -11,37 +11,37 @@ mul-swap-words : tie.Need-mul-swap-words
 mul-swap-words c =
     let s = c .before .before .before .before .before in
     let h = c .before .before .if1 .taken in
-    omega (arith, row-end (s .args .p) (s .args .store .words) (s .args .i) h, words-end (s .pre .0) (s .args .p) (s .pre .1 .1), s .good)
+    omega (arith, row-end (s .args .b) (s .args .store .words) (s .args .a) h, words-end (s .pre .0) (s .args .b) (s .pre .1 .1), s .good)
 
 mul-swap-words-2 : tie.Need-mul-swap-words-2
 mul-swap-words-2 c =
     let s = c .before .before .before .before .before .before in
     let h = c .before .before .before .if1 .taken in
-    omega (arith, row-end (s .args .p) (s .args .store .words) (s .args .i) h, words-end (s .pre .0) (s .args .p) (s .pre .1 .1), s .good)
+    omega (arith, row-end (s .args .b) (s .args .store .words) (s .args .a) h, words-end (s .pre .0) (s .args .b) (s .pre .1 .1), s .good)
 
 swap-words-requires : tie.Need-swap-words-requires
 swap-words-requires c κs =
     let s = c .before .before .before .before .before .before in
     let h = c .before .before .before .if1 .taken in
-    omega (arith, row-end (s .args .p) (s .args .store .words) (s .args .i) h, words-end (s .pre .0) (s .args .p) (s .pre .1 .1), s .good)
+    omega (arith, row-end (s .args .b) (s .args .store .words) (s .args .a) h, words-end (s .pre .0) (s .args .b) (s .pre .1 .1), s .good)
 
 mul-swap-marks : tie.Need-mul-swap-marks
 mul-swap-marks c =
     let s = c .before .before .before .before .before .before .before .before .before .before .before in
     let h = c .before .before .before .before .before .before .before .before .if1 .taken in
-    omega (arith, row-end (s .args .p) (s .args .store .marks) (s .args .i) h, marks-end (s .pre .0) (s .args .p) (s .pre .1 .1), s .good)
+    omega (arith, row-end (s .args .b) (s .args .store .marks) (s .args .a) h, marks-end (s .pre .0) (s .args .b) (s .pre .1 .1), s .good)
 
 mul-swap-marks-2 : tie.Need-mul-swap-marks-2
 mul-swap-marks-2 c =
     let s = c .before .before .before .before .before .before .before .before .before .before .before .before in
     let h = c .before .before .before .before .before .before .before .before .before .if1 .taken in
-    omega (arith, row-end (s .args .p) (s .args .store .marks) (s .args .i) h, marks-end (s .pre .0) (s .args .p) (s .pre .1 .1), s .good)
+    omega (arith, row-end (s .args .b) (s .args .store .marks) (s .args .a) h, marks-end (s .pre .0) (s .args .b) (s .pre .1 .1), s .good)
 
 swap-marks-requires : tie.Need-swap-marks-requires
 swap-marks-requires c κs =
     let s = c .before .before .before .before .before .before .before .before .before .before .before .before in
     let h = c .before .before .before .before .before .before .before .before .before .if1 .taken in
-    omega (arith, row-end (s .args .p) (s .args .store .marks) (s .args .i) h, marks-end (s .pre .0) (s .args .p) (s .pre .1 .1), s .good)
+    omega (arith, row-end (s .args .b) (s .args .store .marks) (s .args .a) h, marks-end (s .pre .0) (s .args .b) (s .pre .1 .1), s .good)
 
 same-length : tie.Need-same-length
 same-length c = search needs
@@ -55,15 +55,15 @@ returns c =
     let a = s .args in
     let f = s .pre .0 in
     rw (c .before .before .before .before .before .before .before .before .swap-words .ensures, c .before .before .swap-marks .ensures)
-    (rows-exchange (a .store .rows) (a .store .words) (a .store .marks) (a .i) (a .p) (a .words .now) (a .marks .now) (f .all-words) (f .all-marks)
+    (rows-swap (a .store .rows) (a .store .words) (a .store .marks) (a .a) (a .b) (a .words .now) (a .marks .now) (f .all-words) (f .all-marks)
     (c .before .before .before .before .before .before .before .before .before .before .before .before .if1 .taken) (s .pre .1 .1))
 
 returns-2 : tie.Need-returns-2
 returns-2 c =
     let s = c .before .before .before in
     let a = s .args in
-    let e : a .i ≡ a .p = omega (arith, c .if1 .left, s .pre .1 .0) in
-    exchange-self (a .i) (a .p) (rowsOf (a .store) (a .words .now) (a .marks .now)) e
+    let e : a .a ≡ a .b = omega (arith, c .if1 .left, s .pre .1 .0) in
+    swap-self (a .a) (a .b) (rowsOf (a .store) (a .words .now) (a .marks .now)) e
 
 pub swap-rows-spec : {M : Type 1} → statement M
 swap-rows-spec =

@@ -1,7 +1,8 @@
 use native.Mathlib.Omega.{arith}
 use borrow.Author.Needs.{needs}
-use Rattle.selection.proofs.places.place.Statement.{statement}
-use Rattle.selection.proofs.places.place.Tie as tie
+use Rattle.selection.proofs.Placing.{own-fewer}
+use Rattle.selection.proofs.places.place_kept.Statement.{statement}
+use Rattle.selection.proofs.places.place_kept.Tie as tie
 
 slice-aggregate-own-places : tie.Need-slice-aggregate-own-places
 slice-aggregate-own-places c = search needs
@@ -27,7 +28,7 @@ place-all-requires c κs =
     let a = c .before .before .before .before .before .before .before .before .own-places in
     let w = c .before .before .before .before .before .own-places2 in
     let few = s .pre .0 .sized .few in
-    (s .pre .0, (s .pre .1, (omega (arith, a .kept .0, few), omega (arith, w .kept .0, few), a .ensures, w .ensures)))
+    (s .pre .0, (s .pre .1, (own-fewer (a .ensures) (omega (arith, few)), own-fewer (w .ensures) (omega (arith, few)))))
 
 same-length : tie.Need-same-length
 same-length c = search needs
@@ -38,8 +39,8 @@ same-length-2 c = search needs
 returns : tie.Need-returns
 returns c = search needs
 
-pub place-spec : {M : Type 1} → statement M
-place-spec =
+pub place-kept-spec : {M : Type 1} → statement M
+place-kept-spec =
     tie.close
     (tie.spec
     slice-aggregate-own-places
