@@ -1,7 +1,7 @@
 -- The lent store ("A row" in document 01): a list of rows, and the two flat lists that hold them one after the other.
 use mathlib.Core.List.{List, [], _∷_, _++_}
 use mathlib.Core.Path.{_≡_}
-use Prim.Native.Nat.{ℕ, zero, suc, _+_, _*_, _<_, _≤_}
+use Prim.Native.Nat.{ℕ, zero, suc, _+_, _-_, _*_, _<_, _≤_}
 use lib.ListN.{length, getD, set, take, drop}
 use Rattle.rows.specs.Rows.{Row, row, blank, header, rowWords, rowMarks}
 use Rattle.store.specs.declared.layout.Layout.{Layout}
@@ -9,6 +9,14 @@ use Rattle.store.specs.declared.layout.Layout.{Layout}
 -- so many rows, of W memory words and L log words each
 abbrev pub layout : ℕ → ℕ → ℕ → Layout
 layout rows w l = record { rows = rows; words = rowWords w l; marks = rowMarks w }
+
+-- W of a store's rows
+abbrev pub memoryOf : Layout → ℕ
+memoryOf s = s .marks - 32
+
+-- the most rows of a store
+abbrev pub mostRows : ℕ
+mostRows = 4096
 
 -- n rows of w words and m marks each, cut from the front
 unfoldable pub cut : ℕ → ℕ → ℕ → List ℕ → List ℕ → List Row
@@ -41,7 +49,7 @@ exchange i p rows = set (set rows i (rowAt rows p)) p (rowAt rows i)
 
 -- what document 01 allows of a store: at most 4,096 rows, memory of some words and at most 1 MiB, a word for each mark
 pub record Sized (s : Layout) : Type 0 where
-  pub few : s .rows ≤ 4096
+  pub few : s .rows ≤ mostRows
   pub registers : 32 < s .marks
   pub memory : s .marks ≤ 131104
   pub slots : s .marks + header ≤ s .words

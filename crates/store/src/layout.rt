@@ -5,6 +5,9 @@ ghost use Rattle.store.specs.Store.{layout};
 use rows::row::HEADER;
 use rows::row::REGISTERS;
 
+// The most rows of a store.
+pub const MOST_ROWS: usize = 4096;
+
 // So many rows, of so many words and so many marks each.
 pub struct Layout {
     pub rows: usize,
