@@ -3,4 +3,5 @@
 pub mod answer;
 pub mod bug;
 pub mod error;
+pub mod finding;
 pub mod outcome;

@@ -12,7 +12,7 @@ use Rattle.rows.specs.Rows.{Row}
 use Rattle.loader.specs.Loading.{Program}
 use Rattle.store.specs.declared.layout.Layout.{Layout}
 use Rattle.store.specs.Store.{Fit, rowsOf}
-use Rattle.rounds.specs.declared.options.RaritySimulationOptions.{RaritySimulationOptions}
+use Rattle.options.specs.declared.RaritySimulationOptions.{RaritySimulationOptions}
 use Rattle.rounds.specs.Calls.{Call, call}
 use Rattle.rounds.specs.Copies.{toCopy}
 use Rattle.rounds.specs.Rounds.{Start, stored, copies, tapeShort, parent, newRow, filled}

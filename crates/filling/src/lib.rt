@@ -15,7 +15,7 @@ ghost use Rattle.rounds.specs.Holding.{Holding, startOf};
 ghost use Rattle.filling.specs.Filling.{filling, afterFilling};
 ghost use Rattle.filling.specs.Copied.{withCopies};
 use loader::load_program;
-use rounds::options::RaritySimulationOptions;
+use options::RaritySimulationOptions;
 use store::copy::copy_row;
 use store::layout::Layout;
 

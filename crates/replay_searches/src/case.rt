@@ -1,13 +1,13 @@
 // One case: a search, on arrays of its own.
 ghost use Prim.Native.Nat.{_≤_};
 ghost use lib.ListN.{length};
+use crate::asked::STATES;
+use crate::asked::are_options;
 use crate::layout::DIGEST;
 use crate::layout::Layout;
 use crate::layout::NUMBER;
 use crate::layout::is_whole;
 use crate::layout::layout_of;
-use crate::options::STATES;
-use crate::options::are_options;
 use crate::searching::can_lend;
 use crate::searching::is_answer;
 use crate::searching::search_line;

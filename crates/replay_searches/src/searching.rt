@@ -1,6 +1,7 @@
 // The search of a line, on what the line lends.
 ghost use Prim.Native.Nat.{_≤_};
 ghost use lib.ListN.{length};
+use crate::asked::options_of;
 use crate::layout::CODE;
 use crate::layout::CODE_ADDRESS;
 use crate::layout::DATA_ADDRESS;
@@ -13,7 +14,6 @@ use crate::layout::PC;
 use crate::layout::ROW;
 use crate::layout::USED;
 use crate::layout::VALUE;
-use crate::options::options_of;
 use replay_lists::columns::bytes_at;
 use replay_lists::columns::is_length;
 use replay_lists::columns::length_at;

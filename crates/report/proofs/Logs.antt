@@ -13,9 +13,9 @@ use Rattle.rows.specs.Rows.{Row, row, header}
 use Rattle.store.specs.Store.{rowsOf}
 use Rattle.store.specs.declared.layout.Layout.{Layout}
 use Rattle.store.proofs.Rows.{row-end, row-get, part-length, length-rows}
-use Rattle.rounds.specs.declared.finding.Finding.{Finding}
-use Rattle.rounds.specs.declared.finding.Finding.the-variants.{Nothing, Found, Failed, TapeShort, ScoresUnordered}
-use Rattle.rounds.proofs.finding.Finding.{the-type}
+use Rattle.answers.specs.declared.finding.Finding.{Finding}
+use Rattle.answers.specs.declared.finding.Finding.the-variants.{Nothing, Found, Failed, TapeShort, ScoresUnordered}
+use Rattle.answers.proofs.finding.Finding.{the-type}
 use Rattle.search.specs.declared.answer.SearchAnswer.{SearchAnswer}
 use Rattle.search.specs.declared.answer.SearchAnswer.the-variants as answer
 use Rattle.report.specs.Reports.{logOf, inputsOf, toldInputs}

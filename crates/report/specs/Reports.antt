@@ -6,8 +6,8 @@ use Rattle.answers.specs.Answers.{refusedAnswer}
 use Rattle.rows.specs.Rows.{Row, rowWords, rowMarks, logCount, logStart}
 use Rattle.store.specs.Store.{rowsOf, rowAt}
 use Rattle.rounds.specs.Calls.{layoutOf}
-use Rattle.rounds.specs.declared.finding.Finding.{Finding}
-use Rattle.rounds.specs.declared.finding.Finding.the-variants as finding
+use Rattle.answers.specs.declared.finding.Finding.{Finding}
+use Rattle.answers.specs.declared.finding.Finding.the-variants as finding
 use Rattle.search.specs.Entry.{Left, searchEntry, searchAnswer}
 use Rattle.search.specs.declared.answer.SearchAnswer.{SearchAnswer}
 use Rattle.search.specs.declared.answer.SearchAnswer.the-variants.{Refused, Searched}

@@ -2,7 +2,7 @@
 ghost use Prim.Native.Nat.{_<_};
 ghost use Rattle.report.specs.Reports.{toldInputs};
 ghost use Rattle.report.specs.Printing.{Lent, Told, logAt};
-use rounds::finding::Finding;
+use answers::finding::Finding;
 use rows::row::HEADER;
 use rows::row::LOG_COUNT;
 use search::answer::SearchAnswer;

@@ -6,7 +6,7 @@ use Prim.Native.Nat.{ℕ, zero, suc, _≤_}
 use native.Mathlib.Nat.{not-suc-le-zero, le-of-suc-le-suc}
 use native.Mathlib.Omega.{arith}
 use lib.ListN.{length, take, length-append}
-use Rattle.rounds.specs.declared.finding.Finding.the-variants.{Nothing}
+use Rattle.answers.specs.declared.finding.Finding.the-variants.{Nothing}
 use Rattle.rounds.specs.Calls.{Call, ofRounds}
 use Rattle.rounds.specs.Rounds.{Start, beginning, stored, tapeShort, filled, chosenOf, selected, After, goes, ends, Round, ranOn, roundOf}
 use Rattle.rounds.specs.Rounds.{roundsAfter, rounds, roundsOf, Searched, searchedAfter, searchFrom, searched}

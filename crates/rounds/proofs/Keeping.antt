@@ -13,8 +13,8 @@ use Rattle.means.specs.declared.MeanType.{MeanType}
 use Rattle.means.specs.Means.{exactMean, AtMost}
 use Rattle.rarity.specs.Scores.{score, scoresOf, areOrdered}
 use Rattle.rarity.proofs.Bounds.{scored, scores-positive, scores-ordered, ruler-of}
-use Rattle.rounds.specs.declared.finding.Finding.{Finding}
-use Rattle.rounds.specs.declared.finding.Finding.the-variants.{Nothing, Found, Failed, TapeShort, ScoresUnordered}
+use Rattle.answers.specs.declared.finding.Finding.{Finding}
+use Rattle.answers.specs.declared.finding.Finding.the-variants.{Nothing, Found, Failed, TapeShort, ScoresUnordered}
 use Rattle.rounds.specs.Calls.{Call}
 use Rattle.rounds.specs.Demand.{Permutation, All}
 use Rattle.rounds.specs.Rounds.{Start, Ranked, stateOf, rankedAmong, lower, chosenOf, After, goes, endsOr, selected}

@@ -4,7 +4,7 @@ use Prim.Native.Nat.{ℕ, _/_}
 use Rattle.loader.specs.Loading.{Program}
 use Rattle.store.specs.Store.{layout}
 use Rattle.store.specs.declared.layout.Layout.{Layout}
-use Rattle.rounds.specs.declared.options.RaritySimulationOptions.{RaritySimulationOptions}
+use Rattle.options.specs.declared.RaritySimulationOptions.{RaritySimulationOptions}
 
 -- the store of a search: one row a state, of W memory words and L log words
 abbrev pub layoutOf : RaritySimulationOptions → ℕ → Layout

@@ -7,7 +7,7 @@ use Rattle.rows.specs.Rows.{Row}
 use Rattle.store.specs.Store.{zeroRow}
 use Rattle.means.specs.Means.{Fraction, exactMean, AtMost}
 use Rattle.counting.specs.Counters.{countersOf}
-use Rattle.rounds.specs.declared.finding.Finding.the-variants.{Nothing}
+use Rattle.answers.specs.declared.finding.Finding.the-variants.{Nothing}
 use Rattle.rounds.specs.Calls.{Call, ofRounds}
 use Rattle.rounds.specs.Rounds.{Start, stored, outcomeOf, stillRunning, stateOf, chosenOf, Round, goes, roundsOf, searched}
 

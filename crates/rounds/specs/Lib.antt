@@ -1,5 +1,3 @@
-pub mod Defaults
-pub mod Findings
 pub mod Calls
 pub mod Copies
 pub mod Selection

@@ -16,9 +16,9 @@ use Rattle.store.specs.declared.layout.Layout.{Layout}
 use Rattle.counting.specs.Counters.{taking}
 use Rattle.rarity.specs.Scores.{score, scoresOf, areOrdered}
 use Rattle.means.specs.declared.MeanType.{MeanType}
-use Rattle.rounds.specs.declared.finding.Finding.{Finding}
-use Rattle.rounds.specs.declared.finding.Finding.the-variants.{Nothing, Found, Failed, TapeShort, ScoresUnordered}
-use Rattle.rounds.specs.declared.options.RaritySimulationOptions.{RaritySimulationOptions}
+use Rattle.answers.specs.declared.finding.Finding.{Finding}
+use Rattle.answers.specs.declared.finding.Finding.the-variants.{Nothing, Found, Failed, TapeShort, ScoresUnordered}
+use Rattle.options.specs.declared.RaritySimulationOptions.{RaritySimulationOptions}
 use Rattle.rounds.specs.Calls.{Call}
 use Rattle.rounds.specs.Copies.{toCopy}
 use Rattle.rounds.specs.Selection.{Chosen, rarest}

@@ -7,8 +7,8 @@ use Rattle.answers.specs.declared.outcome.Progress.{Progress}
 use Rattle.answers.specs.declared.outcome.Progress.the-variants.{Running, Ended}
 use Rattle.rows.specs.Rows.{Row}
 use Rattle.machine.specs.Runs.{Finished, stops}
-use Rattle.rounds.specs.declared.finding.Finding.{Finding}
-use Rattle.rounds.specs.declared.finding.Finding.the-variants.{Nothing, Found, Failed, TapeShort, ScoresUnordered}
+use Rattle.answers.specs.declared.finding.Finding.{Finding}
+use Rattle.answers.specs.declared.finding.Finding.the-variants.{Nothing, Found, Failed, TapeShort, ScoresUnordered}
 use Rattle.rounds.specs.Rounds.{firstBug, firstError}
 use Rattle.running.specs.Choice.{orFirstBug, orFirstError, chosen}
 

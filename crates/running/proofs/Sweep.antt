@@ -14,8 +14,8 @@ use Rattle.machine.specs.Runs.{Finished, runOf}
 use Rattle.store.specs.declared.layout.Layout.{Layout}
 use Rattle.store.specs.Store.{Fit, rowsOf, rowAt}
 use Rattle.store.proofs.Rows.{length-rows, fit-same}
-use Rattle.rounds.specs.declared.finding.Finding.{Finding}
-use Rattle.rounds.specs.declared.finding.Finding.the-variants.{Nothing}
+use Rattle.answers.specs.declared.finding.Finding.{Finding}
+use Rattle.answers.specs.declared.finding.Finding.the-variants.{Nothing}
 use Rattle.rounds.specs.Rounds.{runAll, usedAfter, rowAfter, runningFlag}
 use Rattle.running.specs.declared.AllRan.{AllRan}
 use Rattle.running.specs.Choice.{chosen}

@@ -4,8 +4,8 @@ use Rattle.answers.specs.declared.outcome.Outcome.the-variants as outcome
 use Rattle.answers.specs.declared.outcome.Progress.{Progress}
 use Rattle.answers.specs.declared.outcome.Progress.the-variants.{Running, Ended}
 use Rattle.machine.specs.declared.run.Ran.{Ran}
-use Rattle.rounds.specs.declared.finding.Finding.{Finding}
-use Rattle.rounds.specs.declared.finding.Finding.the-variants.{Nothing, Found, Failed, TapeShort, ScoresUnordered}
+use Rattle.answers.specs.declared.finding.Finding.{Finding}
+use Rattle.answers.specs.declared.finding.Finding.the-variants.{Nothing, Found, Failed, TapeShort, ScoresUnordered}
 
 -- a later bug gives way to a bug only
 abbrev pub orFirstBug : Finding → Finding → Finding

@@ -9,11 +9,11 @@ ghost use Rattle.store.specs.Store.{Fit, rowsOf, rowAt};
 ghost use Rattle.rounds.specs.Rounds.{runAll, rowAfter, isRunning, runningFlag};
 ghost use Rattle.running.specs.Choice.{chosen, orFirstBug, orFirstError};
 ghost use Rattle.running.specs.Running.{LimitsAllow, allRan};
+use answers::finding::Finding;
 use answers::outcome::Outcome;
 use answers::outcome::Progress;
 use machine::run::Ran;
 use machine::run::run;
-use rounds::finding::Finding;
 use store::layout::Layout;
 
 // The first bug in row order, else the first error, else nothing; and how many tape words are used.

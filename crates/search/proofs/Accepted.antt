@@ -17,7 +17,7 @@ use Rattle.checks.proofs.Tests.{all-pass}
 use Rattle.store.specs.Store.{Fit}
 use Rattle.store.proofs.Lent.{lengths-fit}
 use Rattle.rounds.specs.Calls.{layoutOf, call}
-use Rattle.rounds.specs.declared.options.RaritySimulationOptions.{RaritySimulationOptions}
+use Rattle.options.specs.declared.RaritySimulationOptions.{RaritySimulationOptions}
 use Rattle.rounds.proofs.Demand.{demand}
 use Rattle.search.specs.Entry.{callTests, searchChecked, Demanded}
 

@@ -13,7 +13,7 @@ use Rattle.store.proofs.Rows.{words-flat, marks-flat, fit-same}
 use Rattle.rows.specs.Rows.{Row}
 use Rattle.rounds.specs.Calls.{layoutOf, call}
 use Rattle.rounds.specs.Rounds.{searched}
-use Rattle.rounds.specs.declared.options.RaritySimulationOptions.{RaritySimulationOptions}
+use Rattle.options.specs.declared.RaritySimulationOptions.{RaritySimulationOptions}
 use Rattle.search.specs.Entry.{searchChecked, searchedAs, left, searchLeft, searchEntry}
 use Rattle.search.specs.declared.answer.SearchAnswer.{SearchAnswer}
 use Rattle.search.specs.declared.answer.SearchAnswer.the-variants as answer

@@ -13,8 +13,8 @@ use Rattle.rounds.specs.Calls.{Call}
 use Rattle.rounds.specs.Demand.{All, nil}
 use Rattle.rounds.specs.Holding.{Holding, startOf}
 use Rattle.rounds.specs.Rounds.{Start, beginning, stored, tapeShort, goes, ends, roundOf, Searched, searchedAfter, searchFrom}
-use Rattle.rounds.specs.declared.finding.Finding.{Finding}
-use Rattle.rounds.specs.declared.finding.Finding.the-variants.{Nothing, TapeShort}
+use Rattle.answers.specs.declared.finding.Finding.{Finding}
+use Rattle.answers.specs.declared.finding.Finding.the-variants.{Nothing, TapeShort}
 use Rattle.running.specs.Running.{LimitsAllow}
 use Rattle.turns.specs.Turns.{turned, afterAs}
 use Rattle.turns.specs.declared.Turn.the-variants.{Goes, Ends}

@@ -16,9 +16,9 @@ use Rattle.rows.specs.Rows.{Row}
 use Rattle.store.specs.Store.{wordsOf, marksOf}
 use Rattle.rounds.specs.Calls.{layoutOf, call}
 use Rattle.rounds.specs.Demand.{Demand}
-use Rattle.rounds.specs.Findings.{findingAnswer}
+use Rattle.answers.specs.Findings.{findingAnswer}
 use Rattle.rounds.specs.Rounds.{Searched, searched}
-use Rattle.rounds.specs.declared.options.RaritySimulationOptions.{RaritySimulationOptions}
+use Rattle.options.specs.declared.RaritySimulationOptions.{RaritySimulationOptions}
 use Rattle.search.specs.declared.answer.SearchAnswer.{SearchAnswer}
 use Rattle.search.specs.declared.answer.SearchAnswer.the-variants as answer
 

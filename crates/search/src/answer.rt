@@ -2,8 +2,8 @@
 ghost use mathlib.Core.Path.{_≡_};
 ghost use Rattle.search.specs.Entry.{searchAnswer};
 use answers::answer::Answer;
+use answers::finding::Finding;
 use checks::refusal::Refusal;
-use rounds::finding::Finding;
 
 pub enum SearchAnswer {
     Refused(Refusal),

@@ -14,6 +14,7 @@ ghost use Rattle.search.specs.Entry.{optionTests, callTests, searchedAs,
 pub mod answer;
 
 use answer::SearchAnswer;
+use answers::finding::Finding;
 use checks::refusal::Checked;
 use checks::refusal::Refusal;
 use checks::refusal::are_lengths;
@@ -22,8 +23,7 @@ use checks::refusal::is_copy_ratio;
 use checks::refusal::is_log_size;
 use checks::refusal::is_memory_size;
 use checks::segments::check_segments;
-use rounds::finding::Finding;
-use rounds::options::RaritySimulationOptions;
+use options::RaritySimulationOptions;
 use store::layout::Layout;
 use store::zero::zero_rows;
 use turns::Turn;

@@ -3,7 +3,7 @@ use mathlib.Core.Path.{_≡_, sym, ap, _∙_}
 use mathlib.Core.List.{List}
 use Prim.Native.Nat.{ℕ, _-_, _^_, _<_}
 use lib.Dec.{lit<}
-use Rattle.rounds.specs.Defaults.{defaultOptions}
+use Rattle.options.specs.Defaults.{defaultOptions}
 use Rattle.sheet.specs.Sheets.{field, orDefault, parsed}
 use Rattle.sheet.specs.declared.limits.Limits.{Limits}
 use Rattle.sheet.specs.declared.parse.Sheet.{Sheet}

@@ -6,8 +6,9 @@ use lib.Dec.{eqb, ltb}
 use lib.Ieee.{binary64, ofBits}
 use lib.ListN.{length, take, drop}
 use Rattle.loader.specs.Loading.{wordAt, Program, program, segment}
-use Rattle.means.specs.declared.MeanType.{MeanType}
-use Rattle.means.specs.declared.MeanType.the-variants.{Arithmetic, Harmonic}
+use Rattle.options.specs.Defaults.{defaultMemorySize, defaultAmountOfStates, defaultStepSize, defaultSelection}
+use Rattle.options.specs.Defaults.{defaultIterations, defaultCopyRatioBits, defaultMean}
+use Rattle.options.specs.Means.{meanNumber, meanNumbered}
 use Rattle.sheet.specs.declared.fields.Fields.{Fields}
 use Rattle.sheet.specs.declared.limits.Limits.{Limits}
 use Rattle.sheet.specs.declared.parse.Part.{Part}
@@ -46,24 +47,17 @@ fieldsOf s =
 unfoldable pub orDefault : ℕ → ℕ → ℕ
 orDefault x default = cond (eqb x (2 ^ 64 - 1)) default x
 
--- 0.6 as f64 bits, and harmonic as a field
-abbrev pub ratioBits : ℕ
-ratioBits = 0x3fe3_3333_3333_3333
-
-abbrev pub harmonicField : ℕ
-harmonicField = 1
-
 -- the Rust's defaults in fields 0 to 6, before any check of a value
 abbrev pub withDefaults : Fields → Fields
 withDefaults f =
     record {
-      states = orDefault (f .states) 3000;
-      step = orDefault (f .step) 1000;
-      selection = orDefault (f .selection) 50;
-      rounds = orDefault (f .rounds) 20;
-      ratio = orDefault (f .ratio) ratioBits;
-      mean = orDefault (f .mean) harmonicField;
-      memory = orDefault (f .memory) 1048576;
+      states = orDefault (f .states) defaultAmountOfStates;
+      step = orDefault (f .step) defaultStepSize;
+      selection = orDefault (f .selection) defaultSelection;
+      rounds = orDefault (f .rounds) defaultIterations;
+      ratio = orDefault (f .ratio) defaultCopyRatioBits;
+      mean = orDefault (f .mean) (meanNumber defaultMean);
+      memory = orDefault (f .memory) defaultMemorySize;
       log = f .log;
       «code_address» = f .«code_address»;
       «code_offset» = f .«code_offset»;
@@ -74,10 +68,6 @@ withDefaults f =
       «tape_offset» = f .«tape_offset»;
       «tape_words» = f .«tape_words»;
     }
-
--- 0 arithmetic, 1 harmonic
-abbrev pub meanOf : ℕ → MeanType
-meanOf m = cond (eqb m 0) Arithmetic Harmonic
 
 -- what the fields of an accepted sheet say
 abbrev pub sheetOf : Fields → Sheet
@@ -91,7 +81,7 @@ sheetOf f =
             selection = f .selection;
             iterations = f .rounds;
             «copy_init_ratio» = ofBits binary64 (f .ratio);
-            mean = meanOf (f .mean);
+            mean = meanNumbered (f .mean);
           };
       log = f .log;
       code = record { address = f .«code_address»; offset = f .«code_offset»; length = f .«code_length» };

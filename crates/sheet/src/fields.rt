@@ -4,6 +4,14 @@ ghost use Prim.Native.Nat.{_≤_};
 ghost use lib.ListN.{length};
 ghost use Rattle.sheet.specs.Sheets.{fieldsOf, orDefault, withDefaults};
 use loader::word_at;
+use options::AMOUNT_OF_STATES;
+use options::COPY_RATIO_BITS;
+use options::ITERATIONS;
+use options::MEMORY_SIZE;
+use options::SELECTION;
+use options::STEP_SIZE;
+use options::default_mean;
+use options::mean_number;
 
 pub struct Fields {
     pub states: u64,
@@ -28,21 +36,6 @@ pub(crate) const FIELDS_LENGTH: usize = 128;
 
 // All ones ask for the default.
 const DEFAULT: u64 = 0xffff_ffff_ffff_ffff;
-
-const STATES: u64 = 3000;
-
-const STEP: u64 = 1000;
-
-const SELECTION: u64 = 50;
-
-const ROUNDS: u64 = 20;
-
-// The bits of 0.6.
-const RATIO: u64 = 0x3fe3_3333_3333_3333;
-
-const HARMONIC: u64 = 1;
-
-const MEMORY: u64 = 1_048_576;
 
 // The fields as they stand in the sheet.
 pub(crate) fn read_fields(sheet: &[u8]) -> Fields
@@ -80,12 +73,12 @@ pub(crate) fn defaulted(fields: Fields) -> Fields
     ensures { λ r. ⌜ r ≡ withDefaults fields ⌝ }
 {
     let mut f = fields;
-    f.states = or_default(fields.states, STATES);
-    f.step = or_default(fields.step, STEP);
-    f.selection = or_default(fields.selection, SELECTION);
-    f.rounds = or_default(fields.rounds, ROUNDS);
-    f.ratio = or_default(fields.ratio, RATIO);
-    f.mean = or_default(fields.mean, HARMONIC);
-    f.memory = or_default(fields.memory, MEMORY);
+    f.states = or_default(fields.states, AMOUNT_OF_STATES);
+    f.step = or_default(fields.step, STEP_SIZE as u64);
+    f.selection = or_default(fields.selection, SELECTION as u64);
+    f.rounds = or_default(fields.rounds, ITERATIONS as u64);
+    f.ratio = or_default(fields.ratio, COPY_RATIO_BITS);
+    f.mean = or_default(fields.mean, mean_number(default_mean()));
+    f.memory = or_default(fields.memory, MEMORY_SIZE);
     f
 }

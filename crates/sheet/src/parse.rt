@@ -3,14 +3,14 @@ ghost use mathlib.Core.Path.{_≡_};
 ghost use Prim.Native.Nat.{_+_, _*_, _^_, _<_};
 ghost use lib.Dec.{ltb};
 ghost use lib.Ieee.{binary64, ofBits};
-ghost use Rattle.sheet.specs.Sheets.{parsed, fieldsParsed, partPast, aboveLimit, sheetOf, meanOf, sheetNumber};
+ghost use Rattle.sheet.specs.Sheets.{parsed, fieldsParsed, partPast, aboveLimit, sheetOf, sheetNumber};
 use crate::fields::FIELDS_LENGTH;
 use crate::fields::Fields;
 use crate::fields::defaulted;
 use crate::fields::read_fields;
 use crate::limits::Limits;
-use means::MeanType;
-use rounds::options::RaritySimulationOptions;
+use options::RaritySimulationOptions;
+use options::mean_numbered;
 
 // Bytes of the sheet that are loaded at an address.
 pub struct Part {
@@ -71,16 +71,6 @@ fn float_of(bits: u64) -> f64
     }
 }
 
-fn mean_of(mean: u64) -> MeanType
-    ensures { λ r. ⌜ r ≡ meanOf mean ⌝ }
-{
-    if mean == 0 {
-        MeanType::Arithmetic
-    } else {
-        MeanType::Harmonic
-    }
-}
-
 fn sheet_of(f: Fields) -> Sheet
     requires { ⌜ f .step < 2 ^ 32 ⌝ ∗ ⌜ f .selection < 2 ^ 32 ⌝ ∗ ⌜ f .rounds < 2 ^ 32 ⌝ }
     ensures { λ r. ⌜ r ≡ sheetOf f ⌝ }
@@ -93,7 +83,7 @@ fn sheet_of(f: Fields) -> Sheet
             selection: f.selection as u32,
             iterations: f.rounds as u32,
             copy_init_ratio: float_of(f.ratio),
-            mean: mean_of(f.mean),
+            mean: mean_numbered(f.mean),
         },
         log: f.log,
         code: Part {

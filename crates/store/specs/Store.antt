@@ -16,6 +16,10 @@ mostMarks = rowMarks mostMemory
 abbrev pub layout : ℕ → ℕ → ℕ → Layout
 layout rows w l = record { rows = rows; words = rowWords w l; marks = rowMarks w }
 
+-- W of a store's rows
+abbrev pub memoryOf : Layout → ℕ
+memoryOf s = s .marks - registerCount
+
 -- n rows of w words and m marks each, cut from the front
 unfoldable pub cut : ℕ → ℕ → ℕ → List ℕ → List ℕ → List Row
 cut zero w m words marks = []

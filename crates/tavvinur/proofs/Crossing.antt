@@ -2,10 +2,11 @@
 use mathlib.Core.Path.{_≡_, refl}
 use Rattle.means.specs.declared.MeanType.{MeanType}
 use Rattle.means.specs.declared.MeanType.the-variants.{Arithmetic, Harmonic}
-use Rattle.rounds.specs.declared.options.RaritySimulationOptions.{RaritySimulationOptions}
-use Rattle.tavvinur.specs.Flat.{meanOf, meanNumber, optionsOf, flatOf}
+use Rattle.options.specs.Means.{meanNumber, meanNumbered}
+use Rattle.options.specs.declared.RaritySimulationOptions.{RaritySimulationOptions}
+use Rattle.tavvinur.specs.Flat.{optionsOf, flatOf}
 
-mean-back : (m : MeanType) → meanOf (meanNumber m) ≡ m
+mean-back : (m : MeanType) → meanNumbered (meanNumber m) ≡ m
 mean-back Arithmetic = refl
 mean-back Harmonic = refl
 

@@ -3,26 +3,22 @@ use mathlib.Core.Bool.{cond}
 use mathlib.Core.List.{List}
 use mathlib.Core.Path.{_≡_}
 use Prim.Native.Nat.{ℕ}
-use lib.Dec.{eqb, leb}
+use lib.Dec.{leb}
 use lib.Ieee.{Float}
 use Rattle.answers.specs.Answers.{refusedAnswer}
 use Rattle.answers.specs.declared.answer.Answer.{Answer}
 use Rattle.checks.specs.declared.refusal.Checked.the-variants.{Accepted}
 use Rattle.executor.specs.Entries as run
-use Rattle.means.specs.declared.MeanType.{MeanType}
-use Rattle.means.specs.declared.MeanType.the-variants.{Arithmetic, Harmonic}
 use Rattle.rows.specs.Rows.{Row, row}
 use Rattle.loader.specs.Loading.{Program}
-use Rattle.rounds.specs.declared.options.RaritySimulationOptions.{RaritySimulationOptions}
+use Rattle.options.specs.Means.{meanNumber, meanNumbered}
+use Rattle.options.specs.declared.RaritySimulationOptions.{RaritySimulationOptions}
 use Rattle.scoring.specs.Entry as scoring
 use Rattle.scoring.specs.declared.ScoringAnswer.{ScoringAnswer}
 use Rattle.search.specs.Entry as search
 use Rattle.tavvinur.specs.declared.Options.{Options}
 
--- 0 arithmetic, 1 harmonic; 53 refuses what is above
-abbrev pub meanOf : ℕ → MeanType
-meanOf m = cond (eqb m 0) Arithmetic Harmonic
-
+-- a number of a mean above 1 is refused
 abbrev pub unknownMean : ℕ
 unknownMean = 53
 
@@ -35,14 +31,10 @@ optionsOf o =
       selection = o .selection;
       iterations = o .iterations;
       «copy_init_ratio» = o .«copy_init_ratio»;
-      mean = meanOf (o .mean);
+      mean = meanNumbered (o .mean);
     }
 
 -- the options as they cross
-abbrev pub meanNumber : MeanType → ℕ
-meanNumber Arithmetic = 0
-meanNumber Harmonic = 1
-
 abbrev pub flatOf : RaritySimulationOptions → Options
 flatOf o =
     record {
@@ -94,7 +86,7 @@ abbrev pub scoresBy : ScoringAnswer → List Float → List Float → Scores
 scoresBy a computed lent = scoresWith (scoring.scoresLeft a computed lent) (scoring.scoringNumber a)
 
 abbrev pub scoreLeft : ℕ → ℕ → ℕ → ℕ → List ℕ → List ℕ → List Float → Scores
-scoreLeft memory log rows mean words marks scores = let computed = scoring.storeScores memory log rows (meanOf mean) words marks in
+scoreLeft memory log rows mean words marks scores = let computed = scoring.storeScores memory log rows (meanNumbered mean) words marks in
     cond (leb mean 1)
     (scoresBy (scoring.scoringAnswer (scoring.scoringChecked memory log rows words marks scores) computed) computed scores)
     (scoresWith scores unknownMean)

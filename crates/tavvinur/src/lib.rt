@@ -5,14 +5,16 @@ ghost use Rattle.rows.specs.Rows.{row};
 ghost use Rattle.loader.specs.Loading.{image};
 ghost use Rattle.checks.specs.Refusals.{checkedNumber};
 ghost use Rattle.executor.specs.Entries.{creationChecked};
-ghost use Rattle.rounds.specs.Defaults.{defaultOptions};
-ghost use Rattle.tavvinur.specs.Flat.{meanOf, meanNumber, optionsOf, flatOf};
+ghost use Rattle.options.specs.Defaults.{defaultOptions};
+ghost use Rattle.options.specs.Means.{meanNumbered};
+ghost use Rattle.tavvinur.specs.Flat.{optionsOf, flatOf};
 ghost use Rattle.scoring.specs.Entry.{ScoresBounded};
 ghost use Rattle.search.specs.Entry.{Demanded};
 ghost use Rattle.tavvinur.specs.Flat.{left, creationLeft, runLeft, searchLeft, scoresWith, scoreLeft, AlwaysScored};
 use answers::answer::Answer;
-use means::MeanType;
-use rounds::options::RaritySimulationOptions;
+use options::RaritySimulationOptions;
+use options::mean_number;
+use options::mean_numbered;
 
 // The options of a search; `mean` is 0 for arithmetic, 1 for harmonic.
 #[repr(C)]
@@ -30,24 +32,6 @@ const MOST_MEAN: u32 = 1;
 
 const UNKNOWN_MEAN: u64 = 53;
 
-fn mean_of(mean: u32) -> MeanType
-    ensures { λ r. ⌜ r ≡ meanOf mean ⌝ }
-{
-    if mean == 0 {
-        return MeanType::Arithmetic;
-    }
-    MeanType::Harmonic
-}
-
-fn mean_number(mean: MeanType) -> u32
-    ensures { λ r. ⌜ r ≡ meanNumber mean ⌝ }
-{
-    match mean {
-        MeanType::Arithmetic => 0,
-        MeanType::Harmonic => 1,
-    }
-}
-
 fn options_of(options: Options) -> RaritySimulationOptions
     ensures { λ r. ⌜ r ≡ optionsOf options ⌝ }
 {
@@ -58,7 +42,7 @@ fn options_of(options: Options) -> RaritySimulationOptions
         selection: options.selection,
         iterations: options.iterations,
         copy_init_ratio: options.copy_init_ratio,
-        mean: mean_of(options.mean),
+        mean: mean_numbered(options.mean as u64),
     }
 }
 
@@ -75,7 +59,7 @@ pub extern "C" fn tavvinur_default_options() -> Options
         step_size: options.step_size,
         selection: options.selection,
         iterations: options.iterations,
-        mean: mean_number(mean),
+        mean: mean_number(mean) as u32,
         copy_init_ratio: options.copy_init_ratio,
     }
 }
@@ -141,13 +125,21 @@ pub extern "C" fn tavvinur_score(
     ensures { λ r. ⌜ scoresWith (now (scores .exit)) r
         ≡ scoreLeft memory log rows mean (now (words .entry)) (now (marks .entry)) (now (scores .entry)) ⌝ }
     ensures { λ r. ⌜ (mean ≤ 1 → AlwaysScored memory log rows (now (words .entry)) (now (marks .entry)) (now (scores .entry)) r) ⌝ }
-    ensures { λ _. ⌜ (mean ≤ 1 → ScoresBounded memory log rows (meanOf mean) (now (words .entry)) (now (marks .entry)) (now (scores .entry))
+    ensures { λ _. ⌜ (mean ≤ 1 → ScoresBounded memory log rows (meanNumbered mean) (now (words .entry)) (now (marks .entry)) (now (scores .entry))
         (now (scores .exit))) ⌝ }
 {
     if mean > MOST_MEAN {
         return UNKNOWN_MEAN;
     }
-    let answer = scoring::score_with_mean(words, marks, memory, log, rows, mean_of(mean), scores);
+    let answer = scoring::score_with_mean(
+        words,
+        marks,
+        memory,
+        log,
+        rows,
+        mean_numbered(mean as u64),
+        scores,
+    );
     answer.number()
 }
 

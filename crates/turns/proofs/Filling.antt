@@ -6,7 +6,7 @@ use Prim.Native.Nat.{ℕ, _+_, _<_, _^_}
 use native.Mathlib.Omega.{arith}
 use Rattle.rows.specs.Rows.{Row}
 use Rattle.store.specs.Store.{Sized}
-use Rattle.rounds.specs.declared.finding.Finding.the-variants as finding
+use Rattle.answers.specs.declared.finding.Finding.the-variants as finding
 use Rattle.rounds.specs.Calls.{Call}
 use Rattle.rounds.specs.Rounds.{Start, stored, copies, tapeShort, filled, After, ends, ranOn, roundOf}
 use Rattle.filling.specs.declared.Filling.the-variants.{TapeShort, Filled}

@@ -13,8 +13,8 @@ use Rattle.store.proofs.Rows.{length-rows}
 use Rattle.counting.specs.Counters.{taking}
 use Rattle.rarity.specs.Scores.{flaggedScores, areOrdered}
 use Rattle.rarity.proofs.Among.{scores-length}
-use Rattle.rounds.specs.declared.finding.Finding.the-variants.{ScoresUnordered}
-use Rattle.rounds.specs.declared.options.RaritySimulationOptions.{RaritySimulationOptions}
+use Rattle.answers.specs.declared.finding.Finding.the-variants.{ScoresUnordered}
+use Rattle.options.specs.declared.RaritySimulationOptions.{RaritySimulationOptions}
 use Rattle.rounds.specs.Holding.{Holding}
 use Rattle.rounds.specs.Rounds.{stored, chosenOf, goes, ends, selected}
 use Rattle.rounds.specs.Selection.{rarest}

@@ -14,10 +14,10 @@ use Rattle.store.specs.declared.layout.Layout.{Layout}
 use Rattle.store.specs.Store.{rowsOf}
 use Rattle.store.proofs.Rows.{length-rows}
 use Rattle.counting.specs.Counters.{taking}
-use Rattle.rounds.specs.declared.finding.Finding.{Finding}
-use Rattle.rounds.specs.declared.finding.Finding.the-variants.{Nothing, Found, Failed, TapeShort, ScoresUnordered}
-use Rattle.rounds.proofs.finding.Finding.{the-type}
-use Rattle.rounds.specs.declared.options.RaritySimulationOptions.{RaritySimulationOptions}
+use Rattle.answers.specs.declared.finding.Finding.{Finding}
+use Rattle.answers.specs.declared.finding.Finding.the-variants.{Nothing, Found, Failed, TapeShort, ScoresUnordered}
+use Rattle.answers.proofs.finding.Finding.{the-type}
+use Rattle.options.specs.declared.RaritySimulationOptions.{RaritySimulationOptions}
 use Rattle.rounds.specs.Rounds.{After, ends, endsOr, selected, runAll, rowAfter, runningFlag, stillRunning, outcomeOf, usedAfter, ranOn}
 use Rattle.rounds.proofs.Running.{run-all-length}
 use Rattle.running.specs.declared.AllRan.{AllRan}

@@ -8,7 +8,7 @@ use Rattle.store.specs.declared.layout.Layout.{Layout}
 use Rattle.rounds.specs.Calls.{Call}
 use Rattle.rounds.specs.Holding.{Holding}
 use Rattle.rounds.specs.Rounds.{Start, stored, tapeShort, After, goes, ends, roundOf}
-use Rattle.rounds.specs.declared.finding.Finding.the-variants.{TapeShort}
+use Rattle.answers.specs.declared.finding.Finding.the-variants.{TapeShort}
 use Rattle.turns.specs.declared.Turn.{Turn}
 use Rattle.turns.specs.declared.Turn.the-variants.{Goes, Ends}
 

@@ -10,8 +10,8 @@ returns c =
     let above = c .if1 .taken in
     (rw (lt-leb _ _ above), (λ h. absurd (omega (arith, above)), λ h. absurd (omega (arith, above))))
 
-mean-of-requires : tie.Need-mean-of-requires
-mean-of-requires c κs = search needs
+mean-numbered-requires : tie.Need-mean-numbered-requires
+mean-numbered-requires c κs = search needs
 
 score-with-mean-requires : tie.Need-score-with-mean-requires
 score-with-mean-requires c κs = search needs
@@ -24,7 +24,7 @@ same-length c = search needs
 
 returns-2 : tie.Need-returns-2
 returns-2 c =
-    let mean = c .before .before .before .before .before .mean-of .ensures in
+    let mean = c .before .before .before .before .before .mean-numbered .ensures in
     let scored = c .before .before .before .score-with-mean .ensures in (
       rw (le-leb _ _ (c .before .before .before .before .before .before .if1 .left), c .number .ensures, ← mean, ← scored .0, scored .1 .0),
       (λ _ h. c .number .ensures ∙ rw (scored .1 .1 .0 h), λ _. rw (← mean) (scored .1 .1 .1)),
@@ -35,7 +35,7 @@ tavvinur-score-spec =
     tie.close
     (tie.spec
     returns
-    mean-of-requires
+    mean-numbered-requires
     score-with-mean-requires
     number-requires
     same-length

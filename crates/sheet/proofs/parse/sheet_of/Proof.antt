@@ -14,12 +14,12 @@ cast-t4 c = search needs
 float-of-requires : tie.Need-float-of-requires
 float-of-requires c κs = search needs
 
-mean-of-requires : tie.Need-mean-of-requires
-mean-of-requires c κs = search needs
+mean-numbered-requires : tie.Need-mean-numbered-requires
+mean-numbered-requires c κs = search needs
 
 returns : tie.Need-returns
-returns c = rw (c .before .float-of .ensures, c .mean-of .ensures)
+returns c = rw (c .before .float-of .ensures, c .mean-numbered .ensures)
 
 pub sheet-of-spec : {M : Type 1} → statement M
 sheet-of-spec =
-    tie.close (tie.spec cast-t2 cast-t3 cast-t4 float-of-requires mean-of-requires returns)
+    tie.close (tie.spec cast-t2 cast-t3 cast-t4 float-of-requires mean-numbered-requires returns)

@@ -1,11 +1,12 @@
 // What a search comes to (the Rust's Result<Option<Bug>, RaritySimulationError>).
 ghost use mathlib.Core.Path.{_≡_};
-ghost use Rattle.rounds.specs.Findings.{inRow, inNoRow, findingAnswer};
-use answers::answer::Answer;
-use answers::bug::Bug;
-use answers::error::ExecutorError;
-use answers::outcome::Outcome;
+ghost use Rattle.answers.specs.Findings.{inRow, inNoRow, findingAnswer};
+use crate::answer::Answer;
+use crate::bug::Bug;
+use crate::error::ExecutorError;
+use crate::outcome::Outcome;
 
+// How a search ends.
 pub enum Finding {
     // All rounds are done, and no state met a bug or an error.
     Nothing,

@@ -1,6 +1,6 @@
 use borrow.Author.Needs.{needs}
-use Rattle.rounds.proofs.finding.in_row.Statement.{statement}
-use Rattle.rounds.proofs.finding.in_row.Tie as tie
+use Rattle.answers.proofs.finding.in_row.Statement.{statement}
+use Rattle.answers.proofs.finding.in_row.Tie as tie
 
 number-requires : tie.Need-number-requires
 number-requires c κs = search needs

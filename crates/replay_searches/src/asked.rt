@@ -1,8 +1,8 @@
 // The options of a line.
-use means::MeanType;
+use options::RaritySimulationOptions;
+use options::mean_numbered;
 use replay_lists::columns::number_at;
 use replay_lists::float::float_of;
-use rounds::options::RaritySimulationOptions;
 
 pub(crate) const STATES: usize = 0;
 
@@ -18,8 +18,7 @@ const MEAN: usize = 5;
 
 const MEMORY: usize = 6;
 
-const ARITHMETIC: u64 = 0;
-
+// The number of the last mean.
 const HARMONIC: u64 = 1;
 
 // One more than the largest step, selection and number of rounds.
@@ -33,14 +32,6 @@ fn is_count(numbers: &[u64], at: usize) -> bool {
     number_at(numbers, at) < COUNTS
 }
 
-fn mean_of(number: u64) -> MeanType {
-    if number == ARITHMETIC {
-        MeanType::Arithmetic
-    } else {
-        MeanType::Harmonic
-    }
-}
-
 pub(crate) fn options_of(numbers: &[u64]) -> RaritySimulationOptions {
     RaritySimulationOptions {
         memory_size: number_at(numbers, MEMORY),
@@ -49,7 +40,7 @@ pub(crate) fn options_of(numbers: &[u64]) -> RaritySimulationOptions {
         selection: count_at(numbers, SELECTION),
         iterations: count_at(numbers, ROUNDS),
         copy_init_ratio: float_of(number_at(numbers, RATIO)),
-        mean: mean_of(number_at(numbers, MEAN)),
+        mean: mean_numbered(number_at(numbers, MEAN)),
     }
 }
 

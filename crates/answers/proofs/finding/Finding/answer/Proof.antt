@@ -1,6 +1,6 @@
 use borrow.Author.Needs.{needs}
-use Rattle.rounds.proofs.finding.Finding.answer.Statement.{statement}
-use Rattle.rounds.proofs.finding.Finding.answer.Tie as tie
+use Rattle.answers.proofs.finding.Finding.answer.Statement.{statement}
+use Rattle.answers.proofs.finding.Finding.answer.Tie as tie
 
 enum-told : tie.Need-enum-told
 enum-told c = search needs

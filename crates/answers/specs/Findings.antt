@@ -1,11 +1,11 @@
 -- Document 01's answer for every way in which a search can end.
 use Prim.Native.Nat.{ℕ}
 use Rattle.answers.specs.Numbers.{outcomeNumber, outcomeValue}
 use Rattle.answers.specs.declared.answer.Answer.{Answer}
 use Rattle.answers.specs.declared.outcome.Outcome.{Outcome}
 use Rattle.answers.specs.declared.outcome.Outcome.the-variants as outcome
-use Rattle.rounds.specs.declared.finding.Finding.{Finding}
-use Rattle.rounds.specs.declared.finding.Finding.the-variants.{Nothing, Found, Failed, TapeShort, ScoresUnordered}
+use Rattle.answers.specs.declared.finding.Finding.{Finding}
+use Rattle.answers.specs.declared.finding.Finding.the-variants.{Nothing, Found, Failed, TapeShort, ScoresUnordered}
 
 -- bugs and executor errors carry the row and the pc before the instruction
 abbrev pub inRow : Outcome → ℕ → ℕ → ℕ → Answer
