@@ -1,14 +1,14 @@
 // Every executor run for a step, in row order (the Rust's run_all). For the layers above.
-ghost use mathlib.Core.List.{map};
+ghost use mathlib.Core.List.{List, [], _∷_, _++_, map};
 ghost use mathlib.Core.Path.{_≡_};
 ghost use Prim.Native.Nat.{_+_, _<_, _^_};
 ghost use lib.ListN.{length, set};
 ghost use Rattle.rows.specs.Rows.{limitOf};
-ghost use Rattle.machine.specs.Runs.{runOf};
+ghost use Rattle.machine.specs.Runs.{Finished};
 ghost use Rattle.store.specs.Store.{Fit, rowsOf, rowAt};
-ghost use Rattle.rounds.specs.Rounds.{runAll, rowAfter, isRunning, runningFlag};
-ghost use Rattle.running.specs.Choice.{chosen, orFirstBug, orFirstError};
+ghost use Rattle.rounds.specs.Rounds.{runAll, rowAfter, isRunning, runningFlag, outcomeOf};
 ghost use Rattle.running.specs.Running.{LimitsAllow, allRan};
+ghost use Rattle.running.specs.RowRuns.{rowRun, withRowRun, precedenceOf};
 use answers::finding::Finding;
 use answers::outcome::Outcome;
 use answers::outcome::Progress;
@@ -22,51 +22,31 @@ pub struct AllRan {
     pub used: usize,
 }
 
-// A bug that was met earlier stays.
-fn or_first_bug(best: Finding, new: Finding) -> Finding
-    ensures { λ f. ⌜ f ≡ orFirstBug best new ⌝ }
+// A bug stands against an error, and anything stands against nothing.
+fn precedence(finding: Finding) -> u8
+    ensures { λ n. ⌜ n ≡ precedenceOf finding ⌝ }
 {
-    match best {
+    match finding {
+        Finding::Nothing => 0,
         Finding::Found {
             bug: _,
             row: _,
             pc: _,
-        } => best,
-        Finding::Nothing => new,
+        } => 2,
         Finding::Failed {
             error: _,
             row: _,
             pc: _,
-        } => new,
-        Finding::TapeShort => new,
-        Finding::ScoresUnordered => new,
+        } => 1,
+        Finding::TapeShort => 1,
+        Finding::ScoresUnordered => 1,
     }
 }
 
-// Whatever was met earlier stays.
-fn or_first_error(best: Finding, new: Finding) -> Finding
-    ensures { λ f. ⌜ f ≡ orFirstError best new ⌝ }
-{
-    match best {
-        Finding::Nothing => new,
-        Finding::Found {
-            bug: _,
-            row: _,
-            pc: _,
-        } => best,
-        Finding::Failed {
-            error: _,
-            row: _,
-            pc: _,
-        } => best,
-        Finding::TapeShort => best,
-        Finding::ScoresUnordered => best,
-    }
-}
-
-// The finding of the rows up to `row`, from that of the rows before it and its own run.
+// The outcome of the rows up to `row`, from that of the rows before it and its own run.
 fn choose(best: Finding, row: usize, ran: Ran) -> Finding
-    ensures { λ f. ⌜ f ≡ chosen best row ran ⌝ }
+    ensures { λ f. ⌜ ((before : List Finished) (last : Finished) → best ≡ outcomeOf before → row ≡ length before → ran ≡ last .ran
+        → f ≡ outcomeOf (before ++ (last ∷ []))) ⌝ }
 {
     let progress = ran.progress;
     let Progress::Ended(outcome) = progress else {
@@ -76,12 +56,16 @@ fn choose(best: Finding, row: usize, ran: Ran) -> Finding
     match outcome {
         Outcome::Exited => best,
         Outcome::Found(bug) => {
-            let found = Finding::Found { bug, row, pc };
-            or_first_bug(best, found)
+            if precedence(best) < 2 {
+                return Finding::Found { bug, row, pc };
+            }
+            best
         }
         Outcome::Failed(error) => {
-            let failed = Finding::Failed { error, row, pc };
-            or_first_error(best, failed)
+            if precedence(best) < 1 {
+                return Finding::Failed { error, row, pc };
+            }
+            best
         }
     }
 }
@@ -106,17 +90,14 @@ fn run_row(
     used: usize,
     r: usize,
 ) -> Ran
-    requires { ⌜ Fit store (now words) (now marks) ⌝
-        ∗ ⌜ length (now running) ≡ store .rows ⌝
-        ∗ ⌜ r < store .rows ⌝
-        ∗ ⌜ limitOf (rowAt (rowsOf store (now words) (now marks)) r) + step < 2 ^ 64 ⌝ }
-    ensures { λ ran. ⌜ ran ≡ runOf step (now (tape .entry)) used (rowAt (rowsOf store (now (words .entry)) (now (marks .entry))) r) .ran ⌝
-        ∗ ⌜ rowsOf store (now (words .exit)) (now (marks .exit))
-        ≡ set (rowsOf store (now (words .entry)) (now (marks .entry))) r
-        (rowAfter (runOf step (now (tape .entry)) used (rowAt (rowsOf store (now (words .entry)) (now (marks .entry))) r))) ⌝
-        ∗ ⌜ now (running .exit)
-        ≡ set (now (running .entry)) r (runningFlag (runOf step (now (tape .entry)) used
-        (rowAt (rowsOf store (now (words .entry)) (now (marks .entry))) r))) ⌝ }
+    requires { ⌜ Fit store (now words) (now marks) ⌝ }
+    requires { ⌜ length (now running) ≡ store .rows ⌝ }
+    requires { ⌜ r < store .rows ⌝ }
+    requires { ⌜ limitOf (rowAt (rowsOf store (now words) (now marks)) r) + step < 2 ^ 64 ⌝ }
+    ensures { λ ran. ⌜ ran ≡ rowRun step (now (tape .entry)) used r (rowsOf store (now (words .entry)) (now (marks .entry))) .ran ⌝ }
+    ensures { λ _. ⌜ rowsOf store (now (words .exit)) (now (marks .exit))
+        ≡ withRowRun step (now (tape .entry)) used r (rowsOf store (now (words .entry)) (now (marks .entry))) ⌝ }
+    ensures { λ ran. ⌜ now (running .exit) ≡ set (now (running .entry)) r (isRunning (ran .progress)) ⌝ }
 {
     let from_word = r * store.words;
     let from_mark = r * store.marks;
@@ -142,11 +123,13 @@ pub fn run_all(
     tape: &[u64],
     used: usize,
 ) -> AllRan
-    requires { ⌜ Fit store (now words) (now marks) ⌝ ∗ ⌜ length (now running) ≡ store .rows ⌝ ∗ ⌜ LimitsAllow step (rowsOf store (now words) (now marks)) ⌝ }
-    ensures { λ r. ⌜ r ≡ allRan used (runAll step (now (tape .entry)) used (rowsOf store (now (words .entry)) (now (marks .entry)))) ⌝
-        ∗ ⌜ rowsOf store (now (words .exit)) (now (marks .exit))
-        ≡ map rowAfter (runAll step (now (tape .entry)) used (rowsOf store (now (words .entry)) (now (marks .entry)))) ⌝
-        ∗ ⌜ now (running .exit) ≡ map runningFlag (runAll step (now (tape .entry)) used (rowsOf store (now (words .entry)) (now (marks .entry)))) ⌝ }
+    requires { ⌜ Fit store (now words) (now marks) ⌝ }
+    requires { ⌜ length (now running) ≡ store .rows ⌝ }
+    requires { ⌜ LimitsAllow step (rowsOf store (now words) (now marks)) ⌝ }
+    ensures { λ all. ⌜ all ≡ allRan used (runAll step (now (tape .entry)) used (rowsOf store (now (words .entry)) (now (marks .entry)))) ⌝ }
+    ensures { λ _. ⌜ rowsOf store (now (words .exit)) (now (marks .exit))
+        ≡ map rowAfter (runAll step (now (tape .entry)) used (rowsOf store (now (words .entry)) (now (marks .entry)))) ⌝ }
+    ensures { λ _. ⌜ now (running .exit) ≡ map runningFlag (runAll step (now (tape .entry)) used (rowsOf store (now (words .entry)) (now (marks .entry)))) ⌝ }
 {
     let mut finding = Finding::Nothing;
     let mut at = used;

@@ -43,7 +43,7 @@ loop-again c =
     let k = c .before .before .before .before .before .before .before .before .before .before .before .before .before .loop .inv in
     one-run _ _ _ _ _ _ k (c .before .before .before .before .before .before .before .before .before .before .before .if1 .taken)
     (t .last .0) (t .last .1 .0) (t .last .1 .1 .1 .0) (t .kept .0) (t .kept .1 .0)
-    (t .ensures .1 .0) (t .ensures .1 .1) (t .result) (c .choose .result) (t .ensures .0) (c .choose .ensures)
+    (t .ensures .1 .0) (t .result) (c .choose .result) (t .ensures .0) (t .ensures .1 .1) (c .choose .ensures)
 
 same-length : tie.Need-same-length Inv-loop μ-loop
 same-length c = c .before .before .loop .inv .fit .all-words ∙ sym (c .before .before .before .before .before .before .before .pre .0 .all-words)

@@ -6,9 +6,10 @@ use native.Mathlib.Omega.{arith}
 use lib.ListN.{set}
 use Rattle.rows.specs.Rows.{Row, limitOf}
 use Rattle.machine.specs.Runs.{Finished, finishedAs, runOf}
-use Rattle.store.specs.Store.{rowsOf, rowAt}
+use Rattle.store.specs.Store.{rowsOf}
 use Rattle.store.proofs.Rows.{words-end, marks-end, lent-shape, lent-row, row-back}
-use Rattle.rounds.specs.Rounds.{rowAfter, runningFlag}
+use Rattle.rounds.specs.Rounds.{rowAfter}
+use Rattle.running.specs.RowRuns.{rowRun}
 use Rattle.running.proofs.run_row.Statement.{statement}
 use Rattle.running.proofs.run_row.Tie as tie
 
@@ -81,13 +82,13 @@ returns c =
     let h = s .pre .1 .1 .0 in
     let t = c .before .before .before .before .before .run in
     let x = finishedAs (t .last .0) (t .last .1 .0) (t .result) in
-    let e : x ≡ runOf (a .step) (a .tape .now) (a .used) (rowAt (rowsOf (a .store) (a .words .now) (a .marks .now)) (a .r)) =
+    let e : x ≡ rowRun (a .step) (a .tape .now) (a .used) (a .r) (rowsOf (a .store) (a .words .now) (a .marks .now)) =
     t .ensures ∙ ap (λ (z : Row). runOf (a .step) (a .tape .now) (a .used) z) (lent-row f (a .r) h) in (
       ap (λ (z : Finished). z .ran) e,
       (
         row-back f (a .r) h (t .last .0) (t .last .1 .0) (t .kept .0) (t .kept .1 .0)
             ∙ ap (λ (z : Finished). set (rowsOf (a .store) (a .words .now) (a .marks .now)) (a .r) (rowAfter z)) e,
-        ap (λ (z : Bool). set (a .running .now) (a .r) z) (c .still-running .ensures ∙ ap runningFlag e),
+        ap (λ (z : Bool). set (a .running .now) (a .r) z) (c .still-running .ensures),
       ),
     )
 
