@@ -11,7 +11,7 @@ use Rattle.calls.specs.declared.transfer.Reasons.{Reasons}
 use Rattle.calls.specs.declared.transfer.Transfer.{Transfer}
 use Rattle.calls.specs.declared.transfer.Transfer.the-variants.{Buffer, Refused}
 use Rattle.calls.specs.Calls.{a0, a1, a2, Within, unsupported, validRange, bufferAndSize, isFile, transferOf}
-use Rattle.riscu.proofs.Choices.{chosen}
+use Rattle.laws.proofs.Choices.{chosen}
 
 valid-within : (buffer size w : ℕ) → Within w (validRange buffer size w)
 unfolding validRange

@@ -7,7 +7,7 @@ use lib.Dec.{eqb, ltb}
 use borrow.Author.Tests.{ltb-true, eqb-false}
 use Rattle.riscu.specs.Formats.{immB}
 use Rattle.riscu.specs.Registers.{Registers}
-use Rattle.riscu.proofs.Choices.{chosen, parts}
+use Rattle.laws.proofs.Choices.{chosen, parts}
 use Rattle.riscu.specs.declared.instruction.Instruction.{Instruction}
 use Rattle.riscu.specs.declared.instruction.Instruction.the-variants as instruction
 use Rattle.answers.specs.declared.bug.Bug.the-variants.{DivisionByZero}

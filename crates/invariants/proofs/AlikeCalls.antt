@@ -6,6 +6,7 @@ use Prim.Native.Nat.{ℕ, zero, suc, _+_, _/_, _%_}
 use native.Mathlib.Omega.{arith}
 use lib.Dec.{ltb}
 use lib.ListN.{length}
+use Rattle.laws.proofs.Choices.{both-chosen}
 use Rattle.effects.specs.declared.system.SyscallId.{SyscallId}
 use Rattle.effects.specs.declared.system.SyscallId.the-variants as call
 use Rattle.effects.specs.declared.value.Value.{Value}
@@ -18,7 +19,7 @@ use Rattle.calls.specs.declared.transfer.Transfer.the-variants.{Buffer, Refused
 use Rattle.calls.specs.declared.transfer.Reasons.{Reasons}
 use Rattle.calls.specs.Calls.{Called, Within, a0, a1, a2, a7, answered, brk, transferOf, readReasons, writeReasons, readTo, read, isConcrete, allConcrete, writeFrom, write, stepOf, callOf, idOf, system}
 use Rattle.calls.proofs.Ranges.{transfer-within}
-use Rattle.invariants.proofs.Alike.{Same, Alike, same-slot, both-chosen}
+use Rattle.invariants.proofs.Alike.{Same, Alike, same-slot}
 use Rattle.invariants.proofs.AlikeReading.{Both, then-alike, bytes-alike}
 
 same-transfer : {r s : Row} → Same r s → (fd : ℕ) (reasons : Reasons) → transferOf fd reasons r ≡ transferOf fd reasons s

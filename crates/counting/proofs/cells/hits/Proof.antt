@@ -6,7 +6,7 @@ use lib.Dec.{lit≤}
 use Rattle.rows.specs.Rows.{row}
 use Rattle.counting.specs.Probes.{probe}
 use Rattle.counting.proofs.Probes.{hits-occur}
-use Rattle.counting.proofs.Sums.{sum, sum-start, sum-more}
+use Rattle.laws.proofs.Sums.{sum, sum-start, sum-more}
 use Rattle.counting.proofs.cells.hits.Statement.{statement}
 use Rattle.counting.proofs.cells.hits.Tie as tie
 

@@ -5,7 +5,7 @@ use mathlib.Core.Bool.{cond}
 use lib.Dec.{eqb}
 use Rattle.riscu.specs.Decoding.{decodedOp}
 use Rattle.riscu.specs.declared.instruction.Decoded.the-variants.{Invalid}
-use Rattle.riscu.proofs.Choices.{same}
+use Rattle.laws.proofs.Choices.{same}
 use Rattle.riscu.proofs.decode.decode_op.Statement.{statement}
 use Rattle.riscu.proofs.decode.decode_op.Tie as tie
 
