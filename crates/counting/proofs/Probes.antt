@@ -8,6 +8,8 @@ use native.Mathlib.Omega.{arith}
 use borrow.Author.Tests.{ltb-true, ltb-false, eqb-true, eqb-false, eq-eqb, ne-eqb}
 use lib.Dec.{eqb, ltb, lit≤}
 use lib.ListN.{length}
+use Rattle.laws.proofs.Absurd.{impossible}
+use Rattle.laws.proofs.Sums.{sum, sum-same, sum-none, sum-one, sum-swap, sum-most}
 use Rattle.effects.specs.declared.value.Value.{Value}
 use Rattle.effects.specs.declared.value.Value.the-variants.{Concrete, Uninitialized}
 use Rattle.rows.specs.Rows.{Row}
@@ -17,8 +19,6 @@ use Rattle.counting.specs.Cells.{placeAt, places, cellOf, byteOf, addres
 use Rattle.counting.specs.Counters.{occurrences}
 use Rattle.counting.specs.Probes.{placeOf, matches, matchesAt, probe}
 use Rattle.counting.proofs.Places.{place-base, base-place}
-use Rattle.laws.proofs.Absurd.{impossible}
-use Rattle.laws.proofs.Sums.{sum, sum-same, sum-none, sum-one, sum-swap, sum-most}
 
 pub occurrences-append : (a : ℕ) (xs ys : List ℕ) → occurrences a (xs ++ ys) ≡ occurrences a xs + occurrences a ys
 unfolding occurrences
