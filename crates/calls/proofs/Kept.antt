@@ -7,6 +7,7 @@ use native.Mathlib.Omega.{arith}
 use lib.Dec.{ltb}
 use lib.ListN.{length, getD, length-set}
 use lib.Seq.{getD-set-other}
+use Rattle.laws.proofs.Choices.{chosen}
 use Rattle.effects.specs.Effects.{following}
 use Rattle.calls.specs.declared.number.SyscallId.{SyscallId}
 use Rattle.calls.specs.declared.number.SyscallId.the-variants as call
@@ -18,7 +19,6 @@ use Rattle.reading.proofs.Kept.{then-kept, bytes-words, bytes-marks, bytes-head
 use Rattle.calls.specs.declared.transfer.Transfer.{Transfer}
 use Rattle.calls.specs.declared.transfer.Transfer.the-variants.{Buffer, Refused}
 use Rattle.calls.specs.Calls.{a0, a7, returned, brk, transferOf, readReasons, readTo, read, callOf, idOf, system, completed}
-use Rattle.riscu.proofs.Choices.{chosen}
 
 -- f is what is kept: by a call, if by each way in which one writes a row
 module _ {A : Type 0} (f : Row → A) (pc : (x : ℕ) (r : Row) → f (setPc x r) ≡ f r) (break : (x : ℕ) (r : Row) → f (setBreak x r) ≡ f r) (answer : (x : ℕ) (r : Row) → f (returned x r) ≡ f r) (input : (size : ℕ) (tape : List ℕ) (m used : ℕ) (r : Row) → f (bytes size tape m used r .row) ≡ f r) where

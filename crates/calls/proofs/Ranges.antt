@@ -2,6 +2,7 @@
 use Prim.Native.Nat.{ℕ, _+_, _/_}
 use lib.Dec.{ltb}
 use borrow.Author.Tests.{ltb-true}
+use Rattle.laws.proofs.Choices.{chosen}
 use Rattle.answers.specs.declared.bug.Bug.the-variants.{AccessToOutOfRangeAddress}
 use Rattle.answers.specs.declared.outcome.Outcome.the-variants.{Found}
 use Rattle.values.specs.declared.Value.{Value}
@@ -12,7 +13,6 @@ use Rattle.calls.specs.declared.transfer.Transfer.{Transfer}
 use Rattle.calls.specs.declared.transfer.Transfer.the-variants.{Buffer, Refused}
 use Rattle.calls.specs.InMemory.{InMemory}
 use Rattle.calls.specs.Calls.{a0, a1, a2, unsupported, validRange, bufferAndSize, isFile, transferOf}
-use Rattle.riscu.proofs.Choices.{chosen}
 
 valid-in-memory : (buffer size w : ℕ) → InMemory w (validRange buffer size w)
 unfolding validRange

@@ -3,7 +3,7 @@ use mathlib.Core.Path.{_≡_}
 use mathlib.Core.Bool.{true}
 use Prim.Native.Nat.{ℕ}
 use lib.ListN.{length}
-use Rattle.riscu.proofs.Choices.{parts}
+use Rattle.laws.proofs.Choices.{parts}
 use Rattle.loader.specs.Loading.{Program, Segment, Fits}
 use Rattle.checks.specs.Refusals.{isWhole, isInside}
 use Rattle.checks.specs.Segments.{segmentTests}

@@ -1,5 +1,4 @@
 pub mod Places
-pub mod Sums
 pub mod Probes
 pub mod Counts
 pub mod Examples

@@ -8,6 +8,8 @@ use native.Mathlib.Omega.{arith}
 use borrow.Author.Tests.{ltb-true, ltb-false, eqb-true, eqb-false, eq-eqb, ne-eqb}
 use lib.Dec.{eqb, ltb, lit≤}
 use lib.ListN.{length}
+use Rattle.laws.proofs.Absurd.{impossible}
+use Rattle.laws.proofs.Sums.{sum, sum-same, sum-none, sum-one, sum-swap, sum-most}
 use Rattle.values.specs.declared.Value.{Value}
 use Rattle.values.specs.declared.Value.the-variants.{Concrete, Uninitialized}
 use Rattle.rows.specs.Rows.{Row}
@@ -17,7 +19,6 @@ use Rattle.counting.specs.Cells.{placeAt, places, cellOf, byteOf, addres
 use Rattle.counting.specs.Counters.{occurrences}
 use Rattle.counting.specs.Probes.{placeOf, matches, matchesAt, probe}
 use Rattle.counting.proofs.Places.{place-base, base-place}
-use Rattle.counting.proofs.Sums.{sum, sum-same, sum-none, sum-one, sum-swap, sum-most}
 
 pub occurrences-append : (a : ℕ) (xs ys : List ℕ) → occurrences a (xs ++ ys) ≡ occurrences a xs + occurrences a ys
 unfolding occurrences
@@ -101,8 +102,7 @@ module _ (cell byte : ℕ) (small : byte < 256) where
       go false Nowhere below e =
           sum-none f (places r) (λ p m. holds-elsewhere b p (placeAt r p) (λ d.
           let same : Nowhere ≡ At p = found p Nowhere (ltb-false cell (8 * b) below) e d in
-          let no : _≡_ {A = ℕ} 0 1 = cc in
-          omega arith))
+          impossible cc))
           ∙ unfold matchesAt in refl
       go false (At q) below e =
           at q (ltb (length (r .marks)) q) refl (ltb-false cell (8 * b) below) e

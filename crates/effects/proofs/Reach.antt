@@ -5,9 +5,9 @@ use Prim.Native.Nat.{ℕ, _/_, _%_, _<_}
 use native.Mathlib.Omega.{arith}
 use lib.Dec.{eqb, ltb}
 use borrow.Author.Tests.{ltb-true, eqb-false}
+use Rattle.laws.proofs.Choices.{chosen, parts}
 use Rattle.riscu.specs.Formats.{immB}
 use Rattle.riscu.specs.Registers.{Registers}
-use Rattle.riscu.proofs.Choices.{chosen, parts}
 use Rattle.riscu.specs.declared.instruction.Instruction.{Instruction}
 use Rattle.riscu.specs.declared.instruction.Instruction.the-variants as instruction
 use Rattle.answers.specs.declared.bug.Bug.the-variants.{DivisionByZero}

@@ -36,8 +36,3 @@ same-slots e = ap₂ valueAt (e .slots) (e .marks)
 
 pub same-slot : {r s : Row} → Same r s → (n : ℕ) → slotAt r n ≡ slotAt s n
 same-slot e n = ap (λ (f : ℕ → Value). f n) (same-slots e)
-
--- what holds of both sides of either choice holds of both sides of the one that a test makes
-pub both-chosen : {A B : Type 0} (P : A → B → Type 0) (b : Bool) {x y : A} {x′ y′ : B} → P x x′ → P y y′ → P (cond b x y) (cond b x′ y′)
-both-chosen P true p q = p
-both-chosen P false p q = q

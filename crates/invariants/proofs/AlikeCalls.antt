@@ -6,6 +6,7 @@ use Prim.Native.Nat.{ℕ, zero, suc, _+_, _/_, _%_}
 use native.Mathlib.Omega.{arith}
 use lib.Dec.{ltb}
 use lib.ListN.{length}
+use Rattle.laws.proofs.Choices.{both-chosen}
 use Rattle.calls.specs.declared.number.SyscallId.{SyscallId}
 use Rattle.calls.specs.declared.number.SyscallId.the-variants as call
 use Rattle.values.specs.declared.Value.{Value}
@@ -19,7 +20,7 @@ use Rattle.calls.specs.declared.transfer.Reasons.{Reasons}
 use Rattle.calls.specs.InMemory.{InMemory}
 use Rattle.calls.specs.Calls.{Called, a0, a1, a2, a7, returned, brk, transferOf, readReasons, writeReasons, readTo, read, isConcrete, allConcrete, writeFrom, write, stepOf, callOf, idOf, system}
 use Rattle.calls.proofs.Ranges.{transfer-in-memory}
-use Rattle.invariants.proofs.Alike.{Same, Alike, same-slot, both-chosen}
+use Rattle.invariants.proofs.Alike.{Same, Alike, same-slot}
 use Rattle.invariants.proofs.AlikeReading.{Both, then-alike, bytes-alike}
 
 same-transfer : {r s : Row} → Same r s → (fd : ℕ) (reasons : Reasons) → transferOf fd reasons r ≡ transferOf fd reasons s

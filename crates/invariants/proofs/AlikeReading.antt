@@ -4,6 +4,7 @@ use mathlib.Core.Path.{_≡_, refl}
 use Prim.Native.Nat.{ℕ, zero, suc, _+_, _*_, _/_, _%_, _^_, _<_, _≤_}
 use native.Mathlib.Omega.{arith}
 use lib.Dec.{eqb}
+use Rattle.laws.proofs.Choices.{both-chosen}
 use Rattle.answers.specs.declared.outcome.Progress.{Progress}
 use Rattle.answers.specs.declared.outcome.Progress.the-variants.{Running, Ended}
 use Rattle.values.specs.declared.Value.{Value}
@@ -13,7 +14,7 @@ use Rattle.reading.specs.declared.Drawn.{Drawn}
 use Rattle.reading.specs.declared.Drawn.the-variants.{Word, Refused}
 use Rattle.reading.specs.Reading.{Reached, onwards, _thenOn_, drawn, recorded, fullWord, fullWords, tailOf, tail, rest, bytes}
 use Rattle.reading.proofs.Draws.{drawn-room}
-use Rattle.invariants.proofs.Alike.{Same, Alike, same-slot, both-chosen}
+use Rattle.invariants.proofs.Alike.{Same, Alike, same-slot}
 
 same-draw : {r s : Row} → Same r s → (tape : List ℕ) (used : ℕ) → drawn tape used r ≡ drawn tape used s
 unfolding drawn

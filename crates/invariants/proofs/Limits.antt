@@ -27,7 +27,7 @@ module _ (d : ℕ) (more : ℕ → Row → Finished) where
   continued-depth : (pc : ℕ) (p : Progress) (used : ℕ) (r : Row) → (more used r .ran .progress ≡ Running → depthOf (more used r .row) ≡ d) → continued more pc p used r .ran .progress ≡ Running → depthOf (continued more pc p used r .row) ≡ d
   unfolding continued
   continued-depth pc Running used r h e = h e
-  continued-depth pc (Ended o) used r h e = let z : _≡_ {A = ℕ} 0 1 = cc in absurd (omega arith)
+  continued-depth pc (Ended o) used r h e = cc
 
 -- n instructions that do not end the run are n in depth
 pub running-depth : (n : ℕ) (tape : List ℕ) (used : ℕ) (r : Row) → 2 < length (r .words) → runFor n tape used r .ran .progress ≡ Running → depthOf (runFor n tape used r .row) ≡ depthOf r + n

@@ -7,15 +7,11 @@ use native.Mathlib.Omega.{arith}
 use lib.Dec.{eqb}
 use lib.ListN.{length, getD, set, drop}
 use borrow.Author.Tests.{eqb-true}
-use Rattle.riscu.proofs.Choices.{parts}
+use Rattle.laws.proofs.Choices.{both, parts}
 use Rattle.values.specs.declared.Value.{Value}
 use Rattle.values.specs.declared.Value.the-variants.{Concrete, Uninitialized}
 use Rattle.rows.specs.Rows.{wordOf, markOf}
 use Rattle.rows.specs.Valid.{slotValid, slotsValid, allZero}
-
--- a test of two parts
-pub both : {a b : Bool} → a ≡ true → b ≡ true → a && b ≡ true
-both p q = rw (p, q)
 
 -- a value is stored as a valid slot
 stored-valid : (v : Value) → slotValid (wordOf v) (markOf v) ≡ true
@@ -25,7 +21,7 @@ stored-valid Uninitialized = refl
 pub slots-set : (ws ms : List ℕ) (n : ℕ) (v : Value) → slotsValid ws ms ≡ true → slotsValid (set ws n (wordOf v)) (set ms n (markOf v)) ≡ true
 unfolding slotsValid
 slots-set ws [] n v h = refl
-slots-set [] (m ∷ ms) n v h = let z : _≡_ {A = ℕ} 0 1 = cc in absurd (omega arith)
+slots-set [] (m ∷ ms) n v h = cc
 slots-set (x ∷ ws) (m ∷ ms) zero v h = both (stored-valid v) (parts (slotValid x m) (slotsValid ws ms) h .1)
 slots-set (x ∷ ws) (m ∷ ms) (suc n) v h =
     let p = parts (slotValid x m) (slotsValid ws ms) h in
@@ -43,7 +39,7 @@ slots-past (y ∷ ws) (m ∷ ms) (suc i) x k = ap (λ (b : Bool). slotValid y m 
 pub slots-at : (ws ms : List ℕ) (n : ℕ) → n < length ms → slotsValid ws ms ≡ true → slotValid (getD ws n 0) (getD ms n 0) ≡ true
 unfolding slotsValid
 slots-at ws [] n k h = absurd (omega arith)
-slots-at [] (m ∷ ms) n k h = let z : _≡_ {A = ℕ} 0 1 = cc in absurd (omega arith)
+slots-at [] (m ∷ ms) n k h = cc
 slots-at (x ∷ ws) (m ∷ ms) zero k h = parts (slotValid x m) (slotsValid ws ms) h .0
 slots-at (x ∷ ws) (m ∷ ms) (suc n) k h = slots-at ws ms n (omega arith) (parts (slotValid x m) (slotsValid ws ms) h .1)
 

@@ -8,10 +8,10 @@ use lib.Dec.{eqb}
 use lib.ListN.{length, getD, drop}
 use lib.Seq.{getD-drop}
 use borrow.Author.Tests.{eqb-true, eq-eqb, leb-true, le-leb}
-use Rattle.riscu.proofs.Choices.{parts}
+use Rattle.laws.proofs.Choices.{both, parts}
 use Rattle.rows.specs.Rows.{Row, header, logStart, logRoom, logCount}
 use Rattle.rows.specs.Valid.{slotValid, slotsValid, allZero, soundRow}
-use Rattle.invariants.proofs.SlotLists.{both, slots-at, zeros-at}
+use Rattle.invariants.proofs.SlotLists.{slots-at, zeros-at}
 
 pub record Sound (r : Row) : Type 0 where
   pub slots : slotsValid (drop header (r .words)) (r .marks) ≡ true

@@ -13,8 +13,8 @@ use Rattle.lines.specs.Lines.{digitsUpTo, decimal}
 -- the fewest digits that hold n are its decimal digits
 digits-are : (k r n : ℕ) → r ≤ k → Fewest 10 1 n r → digits 10 r n ≡ digitsUpTo k n
 unfolding digitsUpTo
-digits-are k zero n h f = let z : ⊥ = omega (arith, f .0) in absurd z
-digits-are zero (suc r) n h f = let z : ⊥ = omega arith in absurd z
+digits-are k zero n h f = absurd (omega (arith, f .0))
+digits-are zero (suc r) n h f = absurd (omega arith)
 digits-are (suc k) (suc zero) n h f = simp (mod-eq-of-lt (f .1), lt-ltb n 10 (f .1))
 digits-are (suc k) (suc (suc r)) n h f =
     let lo : 10 ^ suc r ≤ n = subst (λ (e : ℕ). 10 ^ e ≤ n) {x = suc (suc r) - 1} {y = suc r} (omega arith) (f .2 (omega arith)) in
@@ -38,7 +38,7 @@ at-most-20 n r h f = go (leb r 20) refl
         let q : 20 < r = leb-false r 20 p in
         let lo : 10 ^ (r - 1) ≤ n = f .2 (omega arith) in
         let up : 10 ^ 20 ≤ 10 ^ (r - 1) = pow-le-pow-right {n = 10} (omega arith) {i = 20} {j = r - 1} (omega arith) in
-        let z : ⊥ = omega arith in absurd z
+        absurd (omega arith)
 
 -- so the digits that the kit's `decimal` finds are the decimal ones
 pub decimal-is : (n r : ℕ) → n < 2 ^ 64 → Fewest 10 1 n r → digits 10 r n ≡ decimal n

@@ -2,6 +2,7 @@
 use mathlib.Core.Path.{_≡_, refl, sym, ap, _∙_}
 use mathlib.Core.List.{List}
 use Prim.Native.Nat.{ℕ, suc, _+_, _-_, _≤_, _<_}
+use native.Mathlib.Nat.{sub-eq-zero-of-le}
 use native.Mathlib.Omega.{arith}
 use lib.ListN.{length}
 use lib.Seq.{getD-set-other}
@@ -23,10 +24,7 @@ use Rattle.machine.proofs.Kept.{advanced-depth}
 -- at the limit
 pub at-limit : (limit : ℕ) (tape : List ℕ) (used : ℕ) (r : Row) → limit ≤ depthOf r → stops Running (pcOf r) used r ≡ runFor (limit - depthOf r) tape used r
 unfolding runFor
-at-limit limit tape used r h = rw (none limit (depthOf r) h)
-  where
-    none : (a b : ℕ) → a ≤ b → a - b ≡ 0
-    none a b h = omega arith
+at-limit limit tape used r h = rw (sub-eq-zero-of-le h)
 
 -- an instruction before the limit
 before-limit : (limit : ℕ) (tape : List ℕ) (used : ℕ) (r : Row) → depthOf r < limit →

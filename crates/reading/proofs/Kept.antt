@@ -6,7 +6,7 @@ use native.Mathlib.Omega.{arith}
 use lib.Dec.{eqb}
 use lib.ListN.{length, getD, length-set}
 use lib.Seq.{getD-set-other}
-use Rattle.riscu.proofs.Choices.{chosen}
+use Rattle.laws.proofs.Choices.{chosen}
 use Rattle.answers.specs.declared.outcome.Progress.{Progress}
 use Rattle.answers.specs.declared.outcome.Progress.the-variants.{Running, Ended}
 use Rattle.values.specs.declared.Value.{Value}

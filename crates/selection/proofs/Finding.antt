@@ -9,6 +9,7 @@ use native.Mathlib.Omega.{arith}
 use lib.Ieee.{Float, nan}
 use lib.ListN.{length, getD, take, drop, set, length-set, drop-of-length-le}
 use lib.Seq.{drop-cons, take-suc, take-suc-set, take-all, length-take-le, set-at}
+use Rattle.laws.proofs.Absurd.{impossible}
 use Rattle.rounds.specs.Selection.{Spot, removeAt, lowestFrom, rarest}
 use Rattle.rounds.proofs.Lists.{inserted-length}
 use Rattle.rounds.proofs.Choosing.{lowest-placed, lowest-inserted}
@@ -150,9 +151,7 @@ one-is a b q = cc
 module _ {k : ℕ} {scores : List Float} {flags live : List Bool} {order : List ℕ} {kept : ℕ} (o : Ordering k scores flags live order kept) where
   turn : kept < k → (x : ScoredRow) (l : List ScoredRow) → candidates 0 scores live ≡ l → One x ≡ lowestIn None l → Turned k scores flags live order kept x
   unfolding lowestIn rarest
-  turn h x [] e b =
-      let z : _≡_ {A = ℕ} 0 1 = cc in
-      absurd (omega arith)
+  turn h x [] e b = impossible cc
   turn h x (y ∷ ys) e b =
       let s = lowestFrom lowerScore (record { at = 0; what = y }) 1 ys in
       let a = lowest-placed lowerScore y ys in
@@ -215,8 +214,7 @@ module _ {k : ℕ} {scores : List Float} {flags live : List Bool} {order : List 
   dry (suc j) [] b = refl
   dry (suc j) (y ∷ ys) b =
       let q = b ∙ scan-spot (record { at = 0; what = y }) 1 ys in
-      let z : _≡_ {A = ℕ} 0 1 = cc in
-      absurd (omega arith)
+      cc
 
   -- all that there are
   pub order-dry : None ≡ lowestIn None (candidates 0 scores live) → Found k scores flags order kept

@@ -3,11 +3,11 @@ use mathlib.Core.Bool.{Bool, true, false}
 use mathlib.Core.List.{List, [], _∷_, _++_, map}
 use mathlib.Core.Path.{_≡_, refl, sym, ap, _∙_}
 use Prim.Native.Nat.{ℕ, zero, suc, _+_, _≤_, _<_}
-use native.Mathlib.Nat.{not-suc-le-zero, le-of-suc-le-suc}
 use native.Mathlib.Omega.{arith}
 use lib.Ieee.{Float, nan}
 use lib.ListN.{length, getD, take, length-map}
 use lib.Seq.{getD-take}
+use Rattle.laws.proofs.Lists.{map-get}
 use Rattle.rounds.specs.Selection.{rarest}
 use Rattle.rounds.specs.Demand.{Permutation, All, nil, cons}
 use Rattle.rounds.proofs.Lists.{all-permuted, all-left, all-at, all-with}
@@ -52,11 +52,6 @@ candidates-apart i (s ∷ scores) (true ∷ flags) =
     let n = suc i + length scores in
     pairs (all-with (after i n s) (candidates-between (suc i) n scores flags (omega arith))) (candidates-apart (suc i) scores flags)
 candidates-apart i (s ∷ scores) (false ∷ flags) = candidates-apart (suc i) scores flags
-
-pub map-get : {A : Type 0} {B : Type 0} (f : A → B) (l : List A) (j : ℕ) (d : A) (e : B) → j < length l → getD (map f l) j e ≡ f (getD l j d)
-map-get f [] j d e h = absurd (not-suc-le-zero h)
-map-get f (x ∷ l) zero d e h = refl
-map-get f (x ∷ l) (suc j) d e h = map-get f l j d e (le-of-suc-le-suc h)
 
 module _ (k : ℕ) (scores : List Float) (flags : List Bool) (order : List ℕ) {kept : ℕ} (many : kept ≡ length (keptNumbers k scores flags))
     (same : take kept order ≡ keptNumbers k scores flags) where

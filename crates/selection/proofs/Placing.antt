@@ -10,12 +10,12 @@ use borrow.Author.Tests.{eqb-true, eqb-false, ltb-true, ltb-false}
 use lib.Dec.{eqb, ltb}
 use lib.ListN.{length, getD, take, set, replicate, length-set, length-map}
 use lib.Seq.{getD-set-same, getD-set-other, getD-take, ext-getD, length-take-le}
+use Rattle.laws.proofs.Lists.{map-get}
 use Rattle.rows.specs.Rows.{Row, row}
 use Rattle.store.specs.declared.layout.Layout.{Layout}
 use Rattle.store.specs.Store.{rowAt, zeroRow, rowsSwapped}
 use Rattle.rounds.specs.Rounds.{stored}
 use Rattle.selection.specs.Places.{Numbers, Own, rowsNumbered}
-use Rattle.selection.proofs.KeptNumbers.{map-get}
 
 -- `place-of` says where each of n rows is, `row-at` which row is where: `rows` are those of `start`, moved so
 pub record Mapped (n : ℕ) (place-of row-at : List ℕ) (start rows : List Row) : Type 0 where

@@ -3,9 +3,9 @@ use borrow.Author.Tests.{ne-eqb}
 use mathlib.Core.Path.{sym, ap, _∙_}
 use mathlib.Core.Bool.{cond}
 use lib.Dec.{eqb}
+use Rattle.laws.proofs.Choices.{same}
 use Rattle.riscu.specs.Decoding.{decodedOp}
 use Rattle.riscu.specs.declared.instruction.Decoded.the-variants.{Invalid}
-use Rattle.riscu.proofs.Choices.{same}
 use Rattle.riscu.proofs.decode.decode_op.Statement.{statement}
 use Rattle.riscu.proofs.decode.decode_op.Tie as tie
 

@@ -3,7 +3,7 @@ use native.Mathlib.Omega.{arith}
 use mathlib.Core.Path.{_≡_, refl, sym, _∙_}
 use Prim.Native.Nat.{_-_}
 use lib.ListN.{length, length-set}
-use Rattle.selection.proofs.Finding.{Ordering, order-starts, order-turn, order-ends, order-dry}
+use Rattle.selection.proofs.Finding.{Ordering, Turned, order-starts, order-turn, order-ends, order-dry}
 use Rattle.selection.proofs.order.find_order.Statement.{statement}
 use Rattle.selection.proofs.order.find_order.Tie as tie
 
@@ -13,6 +13,18 @@ Inv-loop scores live₀ order₀ selection kept₀ live order kept =
 
 abbrev μ-loop : tie.MeasureT-loop
 μ-loop scores live₀ order₀ selection kept₀ live order kept = selection - kept
+
+-- ---- the places that the answers look back to
+abbrev Chosen : Type 0
+Chosen = tie.After-lowest Inv-loop μ-loop
+
+abbrev turn : Chosen → tie.In-loop Inv-loop μ-loop
+turn h = h .before .before .before .before
+
+-- what a turn may write, and what it leaves
+turned : (h : Chosen) → let a = turn h .before .before .before .before .before .args in let l = turn h .before .loop in
+    Turned (a .selection) (a .scores .now) (a .live .now) (l .live) (l .order) (l .kept) (h .lowest .given .0 .0)
+turned h = order-turn (turn h .before .loop .inv .0) (turn h .loop-test .taken) _ (sym (h .lowest .given .1) ∙ h .before .before .next-rarest .ensures)
 
 loop-holds : tie.Need-loop-holds Inv-loop μ-loop
 loop-holds c =
@@ -41,41 +53,24 @@ enum-known-lowest : tie.Need-enum-known-lowest Inv-loop μ-loop
 enum-known-lowest c = search needs
 
 mul-order : tie.Need-mul-order Inv-loop μ-loop
-mul-order c =
-    let w = c .before .before .before .before .before in
-    let s = w .before .before .before .before .before in
-    let l = w .before .loop in
-    let t = order-turn (l .inv .0) (w .loop-test .taken) _ (sym (c .before .lowest .given .1) ∙ c .before .before .before .next-rarest .ensures) in
-    omega (arith, t .room, l .inv .2, s .good)
+mul-order c = let w = turn (c .before) in omega (arith, turned (c .before) .room, w .before .loop .inv .2, w .before .before .before .before .before .good)
 
 slice-write-order : tie.Need-slice-write-order Inv-loop μ-loop
-slice-write-order c =
-    let w = c .before .before .before .before .before in
-    let l = w .before .loop in
-    let t = order-turn (l .inv .0) (w .loop-test .taken) _ (sym (c .before .lowest .given .1) ∙ c .before .before .before .next-rarest .ensures) in
-    t .room
+slice-write-order c = turned (c .before) .room
 
 slice-write-live : tie.Need-slice-write-live Inv-loop μ-loop
-slice-write-live c =
-    let w = c .before .before .before .before .before in
-    let l = w .before .loop in
-    let t = order-turn (l .inv .0) (w .loop-test .taken) _ (sym (c .before .lowest .given .1) ∙ c .before .before .before .next-rarest .ensures) in
-    t .row
+slice-write-live c = turned (c .before) .row
 
 add-kept : tie.Need-add-kept Inv-loop μ-loop
-add-kept c =
-    let s = c .before .before .before .before .before .before .before .before .before .before in
-    omega (arith, c .before .before .before .before .before .loop-test .taken, s .fits .selection)
+add-kept c = let w = turn (c .before) in omega (arith, w .loop-test .taken, w .before .before .before .before .before .fits .selection)
 
 loop-less : tie.Need-loop-less Inv-loop μ-loop
-loop-less c = omega (arith, c .before .before .before .before .before .loop-test .taken)
+loop-less c = omega (arith, turn (c .before) .loop-test .taken)
 
 loop-again : tie.Need-loop-again Inv-loop μ-loop
 loop-again c =
-    let w = c .before .before .before .before .before in
-    let l = w .before .loop in
-    let t = order-turn (l .inv .0) (w .loop-test .taken) _ (sym (c .before .lowest .given .1) ∙ c .before .before .before .next-rarest .ensures) in
-    (t .next, simp length-set (l .inv .1), simp length-set (l .inv .2))
+    let l = turn (c .before) .before .loop in
+    (turned (c .before) .next, simp length-set (l .inv .1), simp length-set (l .inv .2))
 
 same-length-3 : tie.Need-same-length-3 Inv-loop μ-loop
 same-length-3 c = c .before .loop .inv .1

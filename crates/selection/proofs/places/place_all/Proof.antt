@@ -4,7 +4,7 @@ use Prim.Native.Nat.{_-_}
 use lib.ListN.{length}
 use Rattle.store.specs.Store.{Fit, rowsOf}
 use Rattle.store.proofs.Rows.{length-rows, fit-same}
-use Rattle.selection.proofs.Placing.{Placing, place-starts, place-turn, placed}
+use Rattle.selection.proofs.Placing.{Placing, Next, place-starts, place-turn, placed}
 use Rattle.selection.proofs.places.place_all.Statement.{statement}
 use Rattle.selection.proofs.places.place_all.Tie as tie
 
@@ -18,6 +18,27 @@ Inv-loop words₀ marks₀ store place-of₀ row-at₀ order kept place₀ words
 abbrev μ-loop : tie.MeasureT-loop
 μ-loop words₀ marks₀ store place-of₀ row-at₀ order kept place₀ words marks place-of row-at place = kept - place
 
+-- ---- the places that the answers look back to, each by its way from the next one
+abbrev Turn : Type 0
+Turn = tie.In-loop Inv-loop μ-loop
+
+abbrev entry : Turn → tie.Start Inv-loop μ-loop
+entry w = w .before .before .before .before .before .before .before
+
+abbrev turn : Turn → tie.At-loop Inv-loop μ-loop
+turn w = w .before
+
+abbrev began : tie.After-swap-rows Inv-loop μ-loop → Turn
+began s = s .before .before .before .before .before .before
+
+abbrev swapped : tie.After-note Inv-loop μ-loop → tie.After-swap-rows Inv-loop μ-loop
+swapped n = n .before .before .before .before .before .before .before
+
+-- what a turn may read and write, and what it leaves
+next : (w : Turn) → let a = entry w .args in let l = turn w .loop in
+    Next (a .store .rows) (a .kept) (a .order .now) (l .place-of-row) (l .row-at-place) (rowsOf (a .store) (a .words .now) (a .marks .now)) (rowsOf (a .store) (l .words) (l .marks)) (l .place)
+next w = place-turn (entry w .pre .1 .0) (turn w .loop .inv .0) (w .loop-test .taken)
+
 loop-holds : tie.Need-loop-holds Inv-loop μ-loop
 loop-holds c =
     let s = c .before .before .before .before .before in
@@ -27,75 +48,42 @@ loop-holds c =
     (place-starts _ _ _ _ _ _ all (q .0) (q .1), s .pre .0, refl, refl)
 
 mul-incoming : tie.Need-mul-incoming Inv-loop μ-loop
-mul-incoming c =
-    let s = c .before .before .before .before .before .before .before in
-    omega (arith, s .pre .1 .0 .many, c .loop-test .taken, s .good)
+mul-incoming c = omega (arith, entry c .pre .1 .0 .many, c .loop-test .taken, entry c .good)
 
 shared-slice-read-incoming : tie.Need-shared-slice-read-incoming Inv-loop μ-loop
-shared-slice-read-incoming c = omega (arith, c .before .before .before .before .before .before .before .before .pre .1 .0 .many, c .before .loop-test .taken)
+shared-slice-read-incoming c = omega (arith, entry (c .before) .pre .1 .0 .many, c .before .loop-test .taken)
 
 mul-from : tie.Need-mul-from Inv-loop μ-loop
-mul-from c =
-    let s = c .before .before .before .before .before .before .before .before in
-    let l = c .before .before .loop in
-    let t = place-turn (s .pre .1 .0) (l .inv .0) (c .before .loop-test .taken) in
-    omega (arith, t .incoming-in, l .inv .2, s .good)
+mul-from c = let w = c .before in omega (arith, next w .incoming-in, turn w .loop .inv .2, entry w .good)
 
 slice-read-from : tie.Need-slice-read-from Inv-loop μ-loop
-slice-read-from c =
-    let w = c .before .before in
-    let l = w .before .loop in
-    let t = place-turn (w .before .before .before .before .before .before .before .pre .1 .0) (l .inv .0) (w .loop-test .taken) in
-    t .incoming-in
+slice-read-from c = next (c .before .before) .incoming-in
 
 mul-displaced : tie.Need-mul-displaced Inv-loop μ-loop
-mul-displaced c =
-    let s = c .before .before .before .before .before .before .before .before .before in
-    let l = c .before .before .before .loop in
-    let t = place-turn (s .pre .1 .0) (l .inv .0) (c .before .before .loop-test .taken) in
-    omega (arith, t .place-in, l .inv .3, s .good)
+mul-displaced c = let w = c .before .before in omega (arith, next w .place-in, turn w .loop .inv .3, entry w .good)
 
 slice-read-displaced : tie.Need-slice-read-displaced Inv-loop μ-loop
-slice-read-displaced c =
-    let w = c .before .before .before in
-    let l = w .before .loop in
-    let t = place-turn (w .before .before .before .before .before .before .before .pre .1 .0) (l .inv .0) (w .loop-test .taken) in
-    t .place-in
+slice-read-displaced c = next (c .before .before .before) .place-in
 
 swap-rows-requires : tie.Need-swap-rows-requires Inv-loop μ-loop
-swap-rows-requires c κs =
-    let w = c .before .before .before .before .before in
-    let l = w .before .loop in
-    let t = place-turn (w .before .before .before .before .before .before .before .pre .1 .0) (l .inv .0) (w .loop-test .taken) in
-    (l .inv .1, (t .ahead, t .row-in))
+swap-rows-requires c κs = let t = next (c .before .before .before .before .before) in (turn (c .before .before .before .before .before) .loop .inv .1, (t .ahead, t .row-in))
 
 note-requires : tie.Need-note-requires Inv-loop μ-loop
-note-requires c κs =
-    let w = c .before .before .before .before .before .before .before .before .before .before .before .before in
-    let l = w .before .loop in
-    let t = place-turn (w .before .before .before .before .before .before .before .pre .1 .0) (l .inv .0) (w .loop-test .taken) in
-    (t .place-in, (t .from-in, (t .incoming-in, t .displaced-in)))
+note-requires c κs = let t = next (began (c .before .before .before .before .before .before)) in (t .place-in, (t .from-in, (t .incoming-in, t .displaced-in)))
 
 add-place : tie.Need-add-place Inv-loop μ-loop
-add-place c =
-    let w = c .before .before .before .before .before .before .before .before .before .before .before .before .before .before .before .before .before in
-    let s = w .before .before .before .before .before .before .before in
-    omega (arith, w .loop-test .taken, s .fits .kept)
+add-place c = let w = began (swapped (c .before .before .before .before)) in omega (arith, w .loop-test .taken, entry w .fits .kept)
 
 loop-less : tie.Need-loop-less Inv-loop μ-loop
-loop-less c =
-    let w = c .before .before .before .before .before .before .before .before .before .before .before .before .before .before .before .before .before in
-    omega (arith, w .loop-test .taken)
+loop-less c = omega (arith, began (swapped (c .before .before .before .before)) .loop-test .taken)
 
 loop-again : tie.Need-loop-again Inv-loop μ-loop
 loop-again c =
-    let w = c .before .before .before .before .before .before .before .before .before .before .before .before .before .before .before .before .before in
-    let s = w .before .before .before .before .before .before .before in
-    let l = w .before .loop in
-    let t = place-turn (s .pre .1 .0) (l .inv .0) (w .loop-test .taken) in
-    let e = c .before .before .before .before .before .before .before .before .before .before .before .swap-rows in
-    let n = c .before .before .before .before .note in (
-      t .next _ _ (rowsOf (s .args .store) (e .last .0) (e .last .1 .0)) (n .ensures .0) (n .ensures .1) (e .ensures),
+    let n = c .before .before .before .before .note in
+    let e = swapped (c .before .before .before .before) .swap-rows in
+    let w = began (swapped (c .before .before .before .before)) in
+    let l = turn w .loop in (
+      next w .next _ _ (rowsOf (entry w .args .store) (e .last .0) (e .last .1 .0)) (n .ensures .0) (n .ensures .1) (e .ensures),
       fit-same (e .last .0) (e .last .1 .0) (l .inv .1) (e .kept .0) (e .kept .1 .0),
       n .kept .0 ∙ l .inv .2,
       n .kept .1 .0 ∙ l .inv .3,
