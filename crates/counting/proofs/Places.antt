@@ -42,7 +42,13 @@ place-register base l h = rw (ne-eqb base 0 (λ e. omega arith), le-ltb base fir
 
 place-memory : (base : ℕ) → firstMemoryCell ≤ base → placeOf base ≡ At (firstMemoryPlace + (base - firstMemoryCell))
 unfolding placeOf
-place-memory base l = rw (ne-eqb base 0 (λ e. omega arith), le-ltb base firstRegisterCell (omega arith), le-ltb (base - firstRegisterCell) 32 (omega arith), le-ltb base firstMemoryCell l)
+place-memory base l =
+    rw (
+      ne-eqb base 0 (λ e. omega arith),
+      le-ltb base firstRegisterCell (omega arith),
+      le-ltb (base - firstRegisterCell) 32 (omega arith),
+      le-ltb base firstMemoryCell l,
+    )
 
 -- every place is found at its base
 pub place-base : (place : ℕ) → placeOf (baseOf place) ≡ At place
@@ -72,7 +78,9 @@ base-place base place h = go (eqb base 0) (ltb base firstRegisterCell) (ltb (bas
     go false true v w zero? low? register? gap? e = cc
     go false false true w zero? low? register? gap? e =
         let at : 1 + (base - firstRegisterCell) ≡ place = cc in
-        ap baseOf (omega arith) ∙ base-register (base - firstRegisterCell) (ltb-true (base - firstRegisterCell) 32 register?) ∙ omega (arith, ltb-false base firstRegisterCell low?)
+        ap baseOf (omega arith)
+        ∙ base-register (base - firstRegisterCell) (ltb-true (base - firstRegisterCell) 32 register?)
+        ∙ omega (arith, ltb-false base firstRegisterCell low?)
     go false false false true zero? low? register? gap? e = cc
     go false false false false zero? low? register? gap? e =
         let at : firstMemoryPlace + (base - firstMemoryCell) ≡ place = cc in

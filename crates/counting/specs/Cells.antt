@@ -14,10 +14,11 @@ use Rattle.rows.specs.Rows.{Row, pcOf, slotAt}
 abbrev pub firstMemoryPlace : ℕ
 firstMemoryPlace = 1 + registerCount
 
--- the cells of the first register's and the first memory word's lowest byte
+-- the cell of the first register's lowest byte
 abbrev pub firstRegisterCell : ℕ
 firstRegisterCell = 8
 
+-- the cell of the first memory word's lowest byte
 abbrev pub firstMemoryCell : ℕ
 firstMemoryCell = 264
 

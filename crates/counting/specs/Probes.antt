@@ -1,5 +1,5 @@
--- A stepping stone between contracts: how a counter is found. Byte b of a word lies in a cell only if the word's lowest byte lies 8 * b cells before it, so that at most
--- eight words of a row are looked at.
+-- A stepping stone between contracts: how a counter is found. Byte b of a word lies in a cell only if the word's lowest byte lies 8 * b cells
+-- before it, so that at most eight words of a row are looked at.
 use mathlib.Core.Bool.{cond}
 use Prim.Native.Nat.{ℕ, _+_, _-_, _*_}
 use lib.Dec.{eqb, ltb}

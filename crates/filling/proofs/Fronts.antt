@@ -13,8 +13,8 @@ use Rattle.store.specs.declared.layout.Layout.{Layout}
 use Rattle.store.specs.Store.{Fit, rowsOf, rowAt, zeroRow}
 use Rattle.store.proofs.Rows.{length-rows}
 use Rattle.rounds.specs.Rounds.{stored, parent}
-use Rattle.rounds.specs.Holding.{Holding}
-use Rattle.filling.specs.Copied.{withCopies}
+use Rattle.rounds.specs.Handed.{Holding}
+use Rattle.filling.specs.Filling.{withCopies, withNew}
 
 pub record Front (s : Layout) (front : List Row) (words marks : List ℕ) : Type 0 where
   pub fit : Fit s words marks
@@ -124,44 +124,44 @@ module _ (s : Layout) (kept : List Row) (draws : List ℕ) where
 -- ---- new executors
 
 module _ (s : Layout) (front : List Row) (p : Program) where
-  abbrev pub withNew : ℕ → List Row
-  withNew n = front ++ replicate n (newExecutor p (s .words) (s .marks))
+  abbrev grown : ℕ → List Row
+  grown n = withNew s p front n
 
-  with-new-length : (n : ℕ) → length (withNew n) ≡ length front + n
+  with-new-length : (n : ℕ) → length (grown n) ≡ length front + n
   with-new-length n =
       length-append front (replicate n (newExecutor p (s .words) (s .marks)))
       ∙ ap (λ (k : ℕ). length front + k) (length-replicate n (newExecutor p (s .words) (s .marks)))
 
-  pub new-none : {words marks : List ℕ} (from : ℕ) → Front s front words marks → Front s (withNew (from - from)) words marks
+  pub new-none : {words marks : List ℕ} (from : ℕ) → Front s front words marks → Front s (grown (from - from)) words marks
   new-none {words} {marks} from f =
       let none : 0 ≡ from - from = omega arith in
-      subst (λ (k : List Row). Front s k words marks) (sym (append-nil front) ∙ ap withNew none) f
+      subst (λ (k : List Row). Front s k words marks) (sym (append-nil front) ∙ ap grown none) f
 
   -- a program in the first zero row
   pub new-more : {words marks : List ℕ} (words′ marks′ : List ℕ) (from r : ℕ) → length front ≡ from → from ≤ r → r < s .rows → Fit s words′ marks′
       → rowsOf s words′ marks′ ≡ set (rowsOf s words marks) r (programmed p (rowAt (rowsOf s words marks) r))
-      → Front s (withNew (r - from)) words marks → Front s (withNew (r + 1 - from)) words′ marks′
+      → Front s (grown (r - from)) words marks → Front s (grown (r + 1 - from)) words′ marks′
   unfolding newExecutor
   new-more {words} {marks} words′ marks′ from r l past h fit e f =
       let x = newExecutor p (s .words) (s .marks) in
-      let long : r ≡ length (withNew (r - from)) = omega (arith, with-new-length (r - from)) in
+      let long : r ≡ length (grown (r - from)) = omega (arith, with-new-length (r - from)) in
       let more : r - from + 1 ≡ r + 1 - from = omega arith in
       let zero : rowAt (rowsOf s words marks) r ≡ zeroRow s =
       ap (λ (k : List Row). rowAt k r) (f .rows)
-      ∙ ap (λ (k : ℕ). rowAt (stored s (withNew (r - from))) k) long
-      ∙ row-next s (withNew (r - from)) (omega arith) in
+      ∙ ap (λ (k : ℕ). rowAt (stored s (grown (r - from))) k) long
+      ∙ row-next s (grown (r - from)) (omega arith) in
       subst (λ (k : List Row). Front s k words′ marks′)
       (append-assoc front (replicate (r - from) x) (x ∷ [])
       ∙ ap (λ (k : List Row). front ++ k) (replicate-append-replicate (r - from) 1 x ∙ ap (λ (n : ℕ). replicate n x) more))
       (front-more words′ marks′ r x long h fit (e ∙ ap (λ (k : Row). set (rowsOf s words marks) r (programmed p k)) zero) f)
 
   -- no zero row is left
-  pub new-all : {words marks : List ℕ} (from r : ℕ) → length front ≡ from → s .rows ≤ r → Front s (withNew (r - from)) words marks
-      → rowsOf s words marks ≡ withNew (s .rows - from)
+  pub new-all : {words marks : List ℕ} (from r : ℕ) → length front ≡ from → s .rows ≤ r → Front s (grown (r - from)) words marks
+      → rowsOf s words marks ≡ grown (s .rows - from)
   new-all from r l h f =
       let whole : r ≡ s .rows = omega (arith, with-new-length (r - from), f .few) in
-      let none : s .rows - length (withNew (r - from)) ≡ 0 = omega (arith, with-new-length (r - from)) in
+      let none : s .rows - length (grown (r - from)) ≡ 0 = omega (arith, with-new-length (r - from)) in
       f .rows
-      ∙ ap (λ (n : ℕ). withNew (r - from) ++ replicate n (zeroRow s)) none
-      ∙ append-nil (withNew (r - from))
-      ∙ ap (λ (n : ℕ). withNew (n - from)) whole
+      ∙ ap (λ (n : ℕ). grown (r - from) ++ replicate n (zeroRow s)) none
+      ∙ append-nil (grown (r - from))
+      ∙ ap (λ (n : ℕ). grown (n - from)) whole

@@ -1,21 +1,18 @@
 // The store filled up to its number of states (the Rust's create_missing_executors). For the layers above.
 ghost use mathlib.Core.Path.{_≡_};
-ghost use mathlib.Core.List.{_++_};
-ghost use mathlib.Core.Bool.{cond};
 ghost use Prim.Native.Nat.{_+_, _-_, _≤_, _<_};
-ghost use lib.Dec.{T, eqb};
-ghost use lib.ListN.{length, set, take, drop, replicate};
+ghost use lib.Dec.{T};
+ghost use lib.ListN.{length, take, drop};
 ghost use Rattle.checks.specs.Refusals.{isCopyRatio};
-ghost use Rattle.loader.specs.Loading.{segment, image, programmed, newExecutor, Fits};
-ghost use Rattle.store.specs.Store.{rowsOf, rowAt, Fit};
-ghost use Rattle.rounds.specs.Calls.{call};
-ghost use Rattle.rounds.specs.Copies.{toCopy};
+ghost use Rattle.rows.specs.Limits.{mostRows};
+ghost use Rattle.store.specs.Store.{rowsOf, Fit};
+ghost use Rattle.rounds.specs.Copies.{toCopy, copiesOf};
 ghost use Rattle.rounds.specs.Rounds.{stored};
-ghost use Rattle.rounds.specs.Holding.{Holding, startOf};
-ghost use Rattle.filling.specs.Filling.{filling, afterFilling};
-ghost use Rattle.filling.specs.Copied.{withCopies};
+ghost use Rattle.rounds.specs.Handed.{programOf, callOf, Loadable, Callable, startOf, Holding};
+ghost use Rattle.filling.specs.Filling.{withCopies, programmedAt, withNew, filledAs};
 use loader::load_program;
-use options::RaritySimulationOptions;
+use rounds::call::Call;
+use rounds::call::Start;
 use store::copy::copy_row;
 use store::layout::Layout;
 
@@ -28,8 +25,10 @@ pub enum Filling {
 // How many of the missing executors are copies: the product rounded to the nearest whole number, halves up.
 // Twice the product is exact, so what is left to round is a half.
 fn to_copy(missing: usize, ratio: f64) -> usize
-    requires { ⌜ missing ≤ 4096 ⌝ ∗ ⌜ T (isCopyRatio ratio) ⌝ }
-    ensures { λ r. ⌜ r ≡ toCopy missing ratio ⌝ ∗ ⌜ r ≤ missing ⌝ }
+    requires { ⌜ missing ≤ mostRows ⌝ }
+    requires { ⌜ T (isCopyRatio ratio) ⌝ }
+    ensures { λ r. ⌜ r ≡ toCopy missing ratio ⌝ }
+    ensures { λ r. ⌜ r ≤ missing ⌝ }
 {
     let product = (missing as f64) * ratio;
     let twice = std::num::truncating_f64_to_u64(product + product);
@@ -38,8 +37,12 @@ fn to_copy(missing: usize, ratio: f64) -> usize
 
 // None are copied where none are kept.
 fn count_copies(rows: usize, kept: usize, ratio: f64) -> usize
-    requires { ⌜ rows ≤ 4096 ⌝ ∗ ⌜ kept ≤ rows ⌝ ∗ ⌜ T (isCopyRatio ratio) ⌝ }
-    ensures { λ r. ⌜ r ≡ cond (eqb kept 0) 0 (toCopy (rows - kept) ratio) ⌝ ∗ ⌜ kept + r ≤ rows ⌝ ∗ ⌜ (0 < r → 0 < kept) ⌝ }
+    requires { ⌜ rows ≤ mostRows ⌝ }
+    requires { ⌜ kept ≤ rows ⌝ }
+    requires { ⌜ T (isCopyRatio ratio) ⌝ }
+    ensures { λ r. ⌜ r ≡ copiesOf rows kept ratio ⌝ }
+    ensures { λ r. ⌜ kept + r ≤ rows ⌝ }
+    ensures { λ r. ⌜ (0 < r → 0 < kept) ⌝ }
 {
     if kept == 0 {
         return 0;
@@ -62,18 +65,20 @@ fn copy_executors(
     words: &mut [u64],
     marks: &mut [u8],
     store: Layout,
-    kept: usize,
-    count: usize,
     tape: &[u64],
-    used: usize,
+    start: Start,
+    count: usize,
 )
-    requires { ⌜ Holding store (now words) (now marks) kept ⌝
-        ∗ ⌜ kept + count ≤ store .rows ⌝
-        ∗ ⌜ (0 < count → 0 < kept) ⌝
-        ∗ ⌜ count ≤ length (now tape) - used ⌝ }
+    requires { ⌜ Holding store (now words) (now marks) (start .kept) ⌝ }
+    requires { ⌜ start .kept + count ≤ store .rows ⌝ }
+    requires { ⌜ (0 < count → 0 < start .kept) ⌝ }
+    requires { ⌜ count ≤ length (now tape) - start .used ⌝ }
     ensures { λ _. ⌜ rowsOf store (now (words .exit)) (now (marks .exit))
-        ≡ stored store (withCopies (take kept (rowsOf store (now (words .entry)) (now (marks .entry)))) (take count (drop used (now (tape .entry))))) ⌝ }
+        ≡ stored store
+        (withCopies (startOf store (now (words .entry)) (now (marks .entry)) start .kept) (take count (drop (start .used) (now (tape .entry))))) ⌝ }
 {
+    let kept = start.kept;
+    let used = start.used;
     let mut i = 0;
     while i < count {
         let draw = tape[used + i];
@@ -88,33 +93,23 @@ fn copy_executors(
     }
 }
 
-fn load_row(
-    words: &mut [u64],
-    marks: &mut [u8],
-    store: Layout,
-    r: usize,
-    code_address: u64,
-    code: &[u8],
-    data_address: u64,
-    data: &[u8],
-)
-    requires { ⌜ Fit store (now words) (now marks) ⌝
-        ∗ ⌜ r < store .rows ⌝
-        ∗ ⌜ Fits (store .marks - 32) (segment «code_address» (now code)) ⌝
-        ∗ ⌜ Fits (store .marks - 32) (segment «data_address» (now «data»)) ⌝ }
-    ensures { λ _. ⌜ rowsOf store (now (words .exit)) (now (marks .exit))
-        ≡ set (rowsOf store (now (words .entry)) (now (marks .entry))) r
-        (programmed (image «code_address» (now (code .entry)) «data_address» (now («data» .entry)))
-        (rowAt (rowsOf store (now (words .entry)) (now (marks .entry))) r)) ⌝ }
+// The program loaded into row r, which makes a new executor of a zero row.
+fn load_row(words: &mut [u64], marks: &mut [u8], call: Call, code: &[u8], data: &[u8], r: usize)
+    requires { ⌜ Fit (call .store) (now words) (now marks) ⌝ }
+    requires { ⌜ Loadable (call .store) (programOf call (now code) (now «data»)) ⌝ }
+    requires { ⌜ r < call .store .rows ⌝ }
+    ensures { λ _. ⌜ rowsOf (call .store) (now (words .exit)) (now (marks .exit))
+        ≡ programmedAt r (programOf call (now (code .entry)) (now («data» .entry))) (rowsOf (call .store) (now (words .entry)) (now (marks .entry))) ⌝ }
 {
+    let store = call.store;
     let from_word = r * store.words;
     let from_mark = r * store.marks;
     load_program(
         &mut words[from_word..from_word + store.words],
         &mut marks[from_mark..from_mark + store.marks],
-        code_address,
+        call.code_address,
         code,
-        data_address,
+        call.data_address,
         data,
     );
 }
@@ -123,74 +118,46 @@ fn load_row(
 fn new_executors(
     words: &mut [u64],
     marks: &mut [u8],
-    store: Layout,
-    from: usize,
-    code_address: u64,
+    call: Call,
     code: &[u8],
-    data_address: u64,
     data: &[u8],
+    from: usize,
 )
-    requires { ⌜ Holding store (now words) (now marks) from ⌝
-        ∗ ⌜ Fits (store .marks - 32) (segment «code_address» (now code)) ⌝
-        ∗ ⌜ Fits (store .marks - 32) (segment «data_address» (now «data»)) ⌝ }
-    ensures { λ _. ⌜ rowsOf store (now (words .exit)) (now (marks .exit))
-        ≡ take from (rowsOf store (now (words .entry)) (now (marks .entry))) ++ replicate (store .rows - from)
-        (newExecutor (image «code_address» (now (code .entry)) «data_address» (now («data» .entry))) (store .words) (store .marks)) ⌝ }
+    requires { ⌜ Holding (call .store) (now words) (now marks) from ⌝ }
+    requires { ⌜ Loadable (call .store) (programOf call (now code) (now «data»)) ⌝ }
+    ensures { λ _. ⌜ rowsOf (call .store) (now (words .exit)) (now (marks .exit))
+        ≡ withNew (call .store) (programOf call (now (code .entry)) (now («data» .entry)))
+        (take from (rowsOf (call .store) (now (words .entry)) (now (marks .entry)))) (call .store .rows - from) ⌝ }
 {
+    let rows = call.store.rows;
     let mut r = from;
-    while r < store.rows {
-        load_row(
-            words,
-            marks,
-            store,
-            r,
-            code_address,
-            code,
-            data_address,
-            data,
-        );
+    while r < rows {
+        load_row(words, marks, call, code, data, r);
         r += 1;
     }
 }
 
-// The first `kept` rows stay; copies of them follow, then new executors.
+// The kept rows stay; copies of them follow, then new executors.
 pub fn create_missing_executors(
     words: &mut [u64],
     marks: &mut [u8],
-    store: Layout,
-    options: RaritySimulationOptions,
-    kept: usize,
-    code_address: u64,
+    call: Call,
     code: &[u8],
-    data_address: u64,
     data: &[u8],
     tape: &[u64],
-    used: usize,
+    start: Start,
 ) -> Filling
-    requires { ⌜ Holding store (now words) (now marks) kept ⌝
-        ∗ ⌜ T (isCopyRatio (options .«copy_init_ratio»)) ⌝
-        ∗ ⌜ Fits (store .marks - 32) (segment «code_address» (now code)) ⌝
-        ∗ ⌜ Fits (store .marks - 32) (segment «data_address» (now «data»)) ⌝ }
-    ensures { λ r. ⌜ r ≡ filling (call options store (image «code_address» (now (code .entry)) «data_address» (now («data» .entry))) (now (tape .entry)))
-        (startOf store (now (words .entry)) (now (marks .entry)) kept used) ⌝
-        ∗ ⌜ rowsOf store (now (words .exit)) (now (marks .exit))
-        ≡ afterFilling (call options store (image «code_address» (now (code .entry)) «data_address» (now («data» .entry))) (now (tape .entry)))
-        (startOf store (now (words .entry)) (now (marks .entry)) kept used) ⌝ }
+    requires { ⌜ Holding (call .store) (now words) (now marks) (start .kept) ⌝ }
+    requires { ⌜ Callable (callOf call (now code) (now «data») (now tape)) ⌝ }
+    ensures { λ r. ⌜ filledAs r (rowsOf (call .store) (now (words .exit)) (now (marks .exit)))
+        (callOf call (now (code .entry)) (now («data» .entry)) (now (tape .entry))) (startOf (call .store) (now (words .entry)) (now (marks .entry)) start) ⌝ }
 {
-    let count = count_copies(store.rows, kept, options.copy_init_ratio);
-    if words_left(tape, used) < count {
+    let store = call.store;
+    let count = count_copies(store.rows, start.kept, call.options.copy_init_ratio);
+    if words_left(tape, start.used) < count {
         return Filling::TapeShort;
     }
-    copy_executors(words, marks, store, kept, count, tape, used);
-    new_executors(
-        words,
-        marks,
-        store,
-        kept + count,
-        code_address,
-        code,
-        data_address,
-        data,
-    );
-    Filling::Filled(used + count)
+    copy_executors(words, marks, store, tape, start, count);
+    new_executors(words, marks, call, code, data, start.kept + count);
+    Filling::Filled(start.used + count)
 }

@@ -1,7 +1,7 @@
 // One case: a sheet, and what is printed for it.
 ghost use Prim.Native.Nat.{_≤_, _<_};
+ghost use Rattle.report.specs.Reports.{sheetBuffer};
 use crate::layout::Layout;
-use crate::layout::MOST_PRINTED;
 use crate::layout::is_whole;
 use crate::layout::layout_of;
 use crate::printed::is_printed;
@@ -9,10 +9,11 @@ use crate::stored::sheet_of;
 use replay_lists::digest::JUNK_MARK;
 use replay_lists::tally::Judged;
 use replay_lists::tally::disagrees;
+use report::MOST_PRINTED;
 
 // Whether just the line's bytes are printed for its sheet.
 fn replay_sheet(numbers: &[u64], layout: Layout) -> bool
-    requires { ⌜ (0 < layout .stored) × (layout .stored ≤ 512) × (layout .length ≤ 61441) ⌝ }
+    requires { ⌜ (0 < layout .stored) × (layout .stored ≤ 512) × (layout .length ≤ sheetBuffer) ⌝ }
 {
     let sheet = sheet_of(numbers, layout.stored, layout.length);
     let mut out = [JUNK_MARK; MOST_PRINTED];

@@ -1,7 +1,10 @@
 // Where the parts of a line stand: three numbers, the words of the sheet, and the words of what is printed.
 ghost use Prim.Native.Nat.{_≤_};
+ghost use Rattle.report.specs.Reports.{sheetBuffer, mostPrinted};
 use replay_lists::columns::is_length;
 use replay_lists::columns::length_at;
+use report::MOST_PRINTED;
+use report::SHEET_BUFFER;
 
 // The length of the sheet and of what is printed are in bytes.
 const LENGTH: usize = 0;
@@ -12,12 +15,8 @@ const PRINTED: usize = 2;
 
 pub(crate) const SHEET: usize = 3;
 
-// The most that a line has, and the most bytes of a sheet: one more than the bench program takes.
+// The most that a line has.
 pub(crate) const MOST_NUMBERS: usize = 512;
-
-pub(crate) const MOST_SHEET: usize = 61441;
-
-pub(crate) const MOST_PRINTED: usize = 2048;
 
 pub(crate) const WORD_BYTES: usize = 8;
 
@@ -30,10 +29,10 @@ pub(crate) struct Layout {
 }
 
 pub(crate) fn layout_of(numbers: &[u64]) -> Layout
-    ensures { λ r. ⌜ (r .length ≤ 61441) × (r .stored ≤ 512) × (r .printed ≤ 2048) ⌝ }
+    ensures { λ r. ⌜ (r .length ≤ sheetBuffer) × (r .stored ≤ 512) × (r .printed ≤ mostPrinted) ⌝ }
 {
     Layout {
-        length: length_at(numbers, LENGTH, MOST_SHEET),
+        length: length_at(numbers, LENGTH, SHEET_BUFFER),
         stored: length_at(numbers, STORED, MOST_NUMBERS),
         printed: length_at(numbers, PRINTED, MOST_PRINTED),
     }
@@ -48,7 +47,7 @@ fn are_lengths(numbers: &[u64], layout: Layout) -> bool {
 
 // Whether the line has just so many numbers.
 pub(crate) fn is_whole(numbers: &[u64], layout: Layout) -> bool
-    requires { ⌜ (layout .stored ≤ 512) × (layout .printed ≤ 2048) ⌝ }
+    requires { ⌜ (layout .stored ≤ 512) × (layout .printed ≤ mostPrinted) ⌝ }
 {
     let words = (layout.printed + WORD_BYTES - 1) / WORD_BYTES;
     are_lengths(numbers, layout) && numbers.len() == SHEET + layout.stored + words

@@ -1,16 +1,17 @@
 // What is printed for the sheet of a line.
 ghost use Prim.Native.Nat.{_≤_};
+ghost use Rattle.report.specs.Reports.{mostPrinted};
 use crate::layout::Layout;
-use crate::layout::MOST_PRINTED;
 use crate::layout::SHEET;
 use crate::layout::WORD_BYTES;
 use replay_lists::columns::byte_of;
 use replay_lists::columns::number_at;
 use replay_lists::digest::JUNK_MARK;
+use report::MOST_PRINTED;
 
 // A byte of what is printed; past the end what was there before.
 fn printed_byte(numbers: &[u64], layout: Layout, place: usize) -> u8
-    requires { ⌜ (layout .stored ≤ 512) × (place ≤ 2048) ⌝ }
+    requires { ⌜ (layout .stored ≤ 512) × (place ≤ mostPrinted) ⌝ }
 {
     if place >= layout.printed {
         return JUNK_MARK;

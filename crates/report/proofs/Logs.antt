@@ -19,6 +19,7 @@ use Rattle.answers.proofs.finding.Finding.{the-type}
 use Rattle.search.specs.declared.answer.SearchAnswer.{SearchAnswer}
 use Rattle.search.specs.declared.answer.SearchAnswer.the-variants as answer
 use Rattle.report.specs.Reports.{logOf, inputsOf, toldInputs}
+use Rattle.sheet.specs.Sheets.{benchLimits}
 use Rattle.report.specs.Printing.{Lent, Told, logAt, part}
 use Rattle.report.specs.declared.inputs.Span.{Span}
 
@@ -116,7 +117,7 @@ pub none-told : (s : Layout) (words : List ℕ) {a : SearchAnswer} {f : Finding}
 none-told s words {a} {f} e h = nowhere s words (toldInputs a) (λ marks. rw e (no-bug f (rowsOf s words marks) h))
 
 -- so few inputs are told
-pub part-few : {s : Layout} {words : List ℕ} {inputs : List Row → List ℕ} {p : Span} → Told s words inputs p → length (part p words) ≤ 64
+pub part-few : {s : Layout} {words : List ℕ} {inputs : List Row → List ℕ} {p : Span} → Told s words inputs p → length (part p words) ≤ benchLimits .log
 part-few {s} {words} {inputs} {p} t =
     let all = length-take-le (p .to - p .from) (drop (p .from) words) (omega (arith, t .inside, length-drop (p .from) words)) in
     omega (arith, t .few, all)

@@ -1,6 +1,6 @@
 -- From the bytes of a sheet to the printed bytes ("The sheet" in document 01): the sheet, the search and the lines joined.
 use mathlib.Core.List.{List, []}
-use Prim.Native.Nat.{ℕ, _*_, _/_}
+use Prim.Native.Nat.{ℕ, _+_, _*_, _/_}
 use lib.ListN.{take, drop, replicate}
 use Rattle.answers.specs.Answers.{refusedAnswer}
 use Rattle.rows.specs.Rows.{Row, rowWords, rowMarks, logCount, logStart}
@@ -16,6 +16,14 @@ use Rattle.sheet.specs.Sheets.{parsed, benchLimits, sheetNumber, imageOf, tapeO
 use Rattle.sheet.specs.declared.parse.Sheet.{Sheet}
 use Rattle.sheet.specs.declared.parse.Parsed.{Parsed}
 use Rattle.sheet.specs.declared.parse.Parsed.the-variants as sheet
+
+-- a buffer for a sheet has one byte more than a sheet may have
+abbrev pub sheetBuffer : ℕ
+sheetBuffer = benchLimits .bytes + 1
+
+-- the most bytes that are printed: an answer, the inputs of a full log and the used count have 1,858
+abbrev pub mostPrinted : ℕ
+mostPrinted = 2048
 
 -- the logged words of a row
 abbrev pub logOf : Row → List ℕ

@@ -18,7 +18,8 @@ const NOWHERE: Span = Span { from: 0, to: 0 };
 
 // A row's log. Its count is never above its room, but no law of that is needed: the words end there.
 fn log_of(store: Layout, words: &[u64], row: usize) -> Span
-    requires { ⌜ Lent store (now words) ⌝ ∗ ⌜ row < store .rows ⌝ }
+    requires { ⌜ Lent store (now words) ⌝ }
+    requires { ⌜ row < store .rows ⌝ }
     ensures { λ r. ⌜ Told store (now (words .entry)) (logAt row) r ⌝ }
 {
     let at = row * store.words;

@@ -2,14 +2,14 @@
 // caller.
 ghost use mathlib.Core.Path.{_≡_};
 ghost use mathlib.Core.List.{List, []};
-ghost use Prim.Native.Nat.{ℕ, _+_, _*_, _≤_};
+ghost use Prim.Native.Nat.{ℕ, _*_, _≤_};
 ghost use lib.ListN.{length, take};
 ghost use Rattle.answers.specs.Answers.{refusedAnswer};
 ghost use Rattle.lines.specs.Lines.{lines, written};
 ghost use Rattle.sheet.specs.Sheets.{parsed, benchLimits, sheetNumber};
 ghost use Rattle.sheet.specs.declared.parse.Parsed.the-variants.{Accepted};
 ghost use Rattle.store.specs.Store.{rowsOf};
-ghost use Rattle.report.specs.Reports.{printed, searchPrinted};
+ghost use Rattle.report.specs.Reports.{sheetBuffer, mostPrinted, printed, searchPrinted};
 ghost use Rattle.report.specs.Printing.{Printed, Lent, answerLines};
 
 mod inputs;
@@ -18,10 +18,15 @@ mod searching;
 use answers::answer::Answer;
 use inputs::told_inputs;
 use lines::write_lines;
+use rows::row::HEADER;
+use rows::row::REGISTERS;
 use search::answer::SearchAnswer;
 use searching::search_sheet;
 use sheet::limits::Limits;
+use sheet::limits::MOST_LOG;
+use sheet::limits::MOST_MEMORY;
 use sheet::limits::MOST_SHEET;
+use sheet::limits::MOST_STATES;
 use sheet::parse::Parsed;
 use sheet::parse::Sheet;
 use sheet::parse::SheetError;
@@ -34,10 +39,13 @@ pub const SHEET_BUFFER: usize = MOST_SHEET + 1;
 // The most bytes that are printed: an answer, 64 inputs and the used count have 1,858.
 pub const MOST_PRINTED: usize = 2048;
 
-// The most words and marks of a store: eight rows of 1,024 bytes of memory and 64 log words.
-const MOST_WORDS: usize = 1832;
+// The most marks of a row: one for each register and each word of memory.
+const ROW_MARKS: usize = REGISTERS + MOST_MEMORY / 8;
 
-const MOST_MARKS: usize = 1280;
+// The most words and marks of a store.
+const MOST_WORDS: usize = MOST_STATES * (HEADER + ROW_MARKS + MOST_LOG);
+
+const MOST_MARKS: usize = MOST_STATES * ROW_MARKS;
 
 fn report_refusal(error: SheetError, out: &mut [u8; MOST_PRINTED]) -> usize
     ensures { λ r. ⌜ Printed (lines (refusedAnswer (sheetNumber error)) []) (now (out .entry)) (now (out .exit)) r ⌝ }
@@ -97,8 +105,8 @@ fn report_sheet(sheet: &[u8], out: &mut [u8; MOST_PRINTED]) -> usize
 pub fn report(sheet: &[u8; SHEET_BUFFER], n: usize, out: &mut [u8; MOST_PRINTED]) -> usize
     ensures { λ r. ⌜ r ≡ length (printed (take n (now (sheet .entry)))) ⌝ }
     ensures { λ _. ⌜ now (out .exit) ≡ written (printed (take n (now (sheet .entry)))) (now (out .entry)) ⌝ }
-    ensures { λ r. ⌜ r ≤ 2048 ⌝ }
-    ensures { λ _. ⌜ length (now (sheet .entry)) ≡ benchLimits .bytes + 1 ⌝ }
+    ensures { λ r. ⌜ r ≤ mostPrinted ⌝ }
+    ensures { λ _. ⌜ length (now (sheet .entry)) ≡ sheetBuffer ⌝ }
 {
     let buffer: &[u8] = sheet;
     if n < buffer.len() {

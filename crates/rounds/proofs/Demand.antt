@@ -10,7 +10,7 @@ use Rattle.checks.specs.Refusals.{isCopyRatio}
 use Rattle.store.specs.Store.{Sized}
 use Rattle.rounds.specs.Calls.{Call}
 use Rattle.rounds.specs.Demand.{All, nil, Fair, FairRound, Demand}
-use Rattle.rounds.specs.Rounds.{Start, beginning, copies, tapeShort, filled, usedAfter, rowAfter, stateOf, chosenOf, goes, ranOn, roundOf}
+use Rattle.rounds.specs.Rounds.{Start, beginning, copies, tapeShort, filled, usedAfter, rowAfter, stateOf, chosenOf, goesOn, ranOn, roundOf}
 use Rattle.rounds.proofs.Every.{every}
 use Rattle.rounds.proofs.Filling.{filled-length, new-proper}
 use Rattle.rounds.proofs.Fronts.{front, leaves}
@@ -22,25 +22,25 @@ use Rattle.rounds.proofs.Running.{run-all-length, run-proper, still-run
 
 -- what every round starts from
 pub record Ready (c : Call) (s : Start) : Type 0 where
-  pub proper : All (Proper (c .layout)) (s .kept)
-  pub few : length (s .kept) ≤ c .layout .rows
+  pub proper : All (Proper (c .store)) (s .kept)
+  pub few : length (s .kept) ≤ c .store .rows
 
 pub begins : (c : Call) → Ready c beginning
 begins c = record { proper = nil; few = omega arith }
 
-module _ (c : Call) (sized : Sized (c .layout)) (ratio : T (isCopyRatio (c .options .«copy_init_ratio»))) where
+module _ (c : Call) (sized : Sized (c .store)) (ratio : T (isCopyRatio (c .options .«copy_init_ratio»))) where
   module _ (s : Start) (ready : Ready c s) (tape : tapeShort c s ≡ false) where
-    pub runs-length : length (roundOf c s .runs) ≡ c .layout .rows
+    pub runs-length : length (roundOf c s .runs) ≡ c .store .rows
     unfolding roundOf ranOn
     runs-length =
         run-all-length (c .options .«step_size») (c .tape) (s .used + copies c s) (filled c s)
         ∙ filled-length c s sized ratio (ready .few) tape
 
-    running-proper : All (Proper (c .layout)) (running c s)
+    running-proper : All (Proper (c .store)) (running c s)
     running-proper =
-        running-all c s (run-proper (c .layout) (c .options .«step_size») (c .tape)) (ready .proper) (new-proper c s sized)
+        running-all c s (run-proper (c .store) (c .options .«step_size») (c .tape)) (ready .proper) (new-proper c s sized)
 
-    running-few : length (running c s) ≤ c .layout .rows
+    running-few : length (running c s) ≤ c .store .rows
     running-few = let n = still-running-length (roundOf c s .runs) in omega (arith, runs-length)
 
     few : length (running c s) ≤ 4096
@@ -49,11 +49,11 @@ module _ (c : Call) (sized : Sized (c .layout)) (ratio : T (isCopyRatio (c .opti
     short : All (λ r. length (r .marks) ≤ 131104) (running c s)
     short = all-with (λ r h. omega (arith, h .marks, sized .memory)) running-proper
 
-    module _ (next : Start) (e : roundOf c s .after ≡ goes next) where
+    module _ (next : Start) (e : roundOf c s .after ≡ goesOn next) where
       kept : next .kept ≡ map stateOf (chosenOf (c .options) (running c s) .kept)
       kept = kept-chosen c s next e
 
-      kept-proper : All (Proper (c .layout)) (next .kept)
+      kept-proper : All (Proper (c .store)) (next .kept)
       kept-proper = kept-all c s next e running-proper
 
       kept-as-many : length (next .kept) ≡ min (c .options .selection) (length (running c s))
@@ -79,11 +79,11 @@ module _ (c : Call) (sized : Sized (c .layout)) (ratio : T (isCopyRatio (c .opti
         let runs = roundOf c s .runs in
         let used = usedAfter (s .used + copies c s) runs in
         let next : Start = record { kept = map stateOf (chosenOf (c .options) (running c s) .kept); used = used } in
-        let e : roundOf c s .after ≡ goes next = rw quiet (goes-on c (running c s) few short (map rowAfter runs) used) in
+        let e : roundOf c s .after ≡ goesOn next = rw quiet (goes-on c (running c s) few short (map rowAfter runs) used) in
         record { next = next; goes-on = e; fair = fair next e }
 
 -- a store and a copy ratio that document 01 allows are all that is asked of a call
-pub demand : (c : Call) → Sized (c .layout) → T (isCopyRatio (c .options .«copy_init_ratio»)) → Demand c
+pub demand : (c : Call) → Sized (c .store) → T (isCopyRatio (c .options .«copy_init_ratio»)) → Demand c
 demand c sized ratio =
     record {
       every =

@@ -5,12 +5,12 @@ use mathlib.Core.Path.{_≡_, refl}
 use Prim.Native.Nat.{ℕ, zero, suc}
 use Rattle.rounds.specs.Calls.{Call}
 use Rattle.rounds.specs.Demand.{All, nil, cons}
-use Rattle.rounds.specs.Rounds.{Start, After, goes, ends, tapeShort, Round, roundOf, roundsAfter, rounds}
+use Rattle.rounds.specs.Rounds.{Start, After, goesOn, ends, tapeShort, Round, roundOf, roundsAfter, rounds}
 
 -- J is what a start is; a round is made only where the tape has words for its copies
 module _ (c : Call) (J : Start → Type 0) (P : Round → Type 0)
     (each : (s : Start) → J s → tapeShort c s ≡ false → P (roundOf c s))
-    (next : (s t : Start) → J s → tapeShort c s ≡ false → roundOf c s .after ≡ goes t → J t) where
+    (next : (s t : Start) → J s → tapeShort c s ≡ false → roundOf c s .after ≡ goesOn t → J t) where
   pub every : (n : ℕ) (s : Start) → J s → All P (rounds n c s)
   unfolding rounds
   every zero s j = nil
@@ -18,7 +18,7 @@ module _ (c : Call) (J : Start → Type 0) (P : Round → Type 0)
     where
       after : (a : After) → tapeShort c s ≡ false → roundOf c s .after ≡ a → ((t : Start) → J t → All P (rounds n c t))
           → All P (roundsAfter a (λ t. rounds n c t))
-      after (goes t) h e more = more t (next s t j h e)
+      after (goesOn t) h e more = more t (next s t j h e)
       after (ends f rows used) h e more = nil
 
       filled : (b : Bool) → tapeShort c s ≡ b → ((t : Start) → J t → All P (rounds n c t))

@@ -20,7 +20,7 @@ use Rattle.rounds.proofs.Copies.{copy-most}
 use Rattle.rounds.proofs.Lists.{all-append, all-at, all-replicate}
 use Rattle.rounds.proofs.Proper.{Proper}
 
-module _ (c : Call) (s : Start) (sized : Sized (c .layout)) where
+module _ (c : Call) (s : Start) (sized : Sized (c .store)) where
   -- no more copies than rows are missing
   pub copies-most : T (isCopyRatio (c .options .«copy_init_ratio»)) → copies c s ≤ missing c s
   copies-most ratio = by (eqb (length (s .kept)) 0)
@@ -30,8 +30,8 @@ module _ (c : Call) (s : Start) (sized : Sized (c .layout)) where
       by false = copy-most (missing c s) (c .options .«copy_init_ratio») (omega (arith, sized .few)) ratio
 
   -- every row of the store is filled
-  pub filled-length : T (isCopyRatio (c .options .«copy_init_ratio»)) → length (s .kept) ≤ c .layout .rows → tapeShort c s ≡ false
-      → length (filled c s) ≡ c .layout .rows
+  pub filled-length : T (isCopyRatio (c .options .«copy_init_ratio»)) → length (s .kept) ≤ c .store .rows → tapeShort c s ≡ false
+      → length (filled c s) ≡ c .store .rows
   unfolding filled tapeShort
   filled-length ratio few tape =
       let most = copies-most ratio in
@@ -39,12 +39,12 @@ module _ (c : Call) (s : Start) (sized : Sized (c .layout)) where
       simp (length-append, length-map, length-take, length-drop, length-replicate) (omega arith)
 
   -- a new executor
-  pub new-proper : Proper (c .layout) (newRow c)
+  pub new-proper : Proper (c .store) (newRow c)
   new-proper =
       record {
-        words = new-words (c .image) (c .layout .words) (c .layout .marks);
-        marks = new-marks (c .image) (c .layout .words) (c .layout .marks);
-        zero-mark = new-zero-mark (c .image) (c .layout .words) (c .layout .marks) (sized .registers) (sized .slots);
+        words = new-words (c .image) (c .store .words) (c .store .marks);
+        marks = new-marks (c .image) (c .store .words) (c .store .marks);
+        zero-mark = new-zero-mark (c .image) (c .store .words) (c .store .marks) (sized .registers) (sized .slots);
       }
 
 -- what holds of the kept rows and of a new one holds of all rows filled

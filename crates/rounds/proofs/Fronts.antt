@@ -8,7 +8,7 @@ use native.Mathlib.Omega.{arith}
 use lib.ListN.{length, take, length-append}
 use Rattle.answers.specs.declared.finding.Finding.the-variants.{Nothing}
 use Rattle.rounds.specs.Calls.{Call, ofRounds}
-use Rattle.rounds.specs.Rounds.{Start, beginning, stored, tapeShort, filled, chosenOf, selected, After, goes, ends, Round, ranOn, roundOf}
+use Rattle.rounds.specs.Rounds.{Start, beginning, stored, tapeShort, filled, chosenOf, selected, After, goesOn, ends, Round, ranOn, roundOf}
 use Rattle.rounds.specs.Rounds.{roundsAfter, rounds, roundsOf, Searched, searchedAfter, searchFrom, searched}
 
 take-none : {A : Type 0} (k : ℕ) → _≡_ {A = List A} [] (take k [])
@@ -53,7 +53,7 @@ module _ (c : Call) where
     where
       after : (a : After) → ((t : Start) → rounds k c t ≡ take k (rounds n c t))
           → roundsAfter a (λ t. rounds k c t) ≡ take k (roundsAfter a (λ t. rounds n c t))
-      after (goes t) more = more t
+      after (goesOn t) more = more t
       after (ends f rows used) more = take-none k
 
       filled-or : (b : Bool) → ((t : Start) → rounds k c t ≡ take k (rounds n c t)) → cond b [] (from k s) ≡ take (suc k) (cond b [] (from n s))
@@ -65,9 +65,9 @@ module _ (c : Call) where
 
   -- what a call leaves whose last round goes on with `next`
   abbrev left : Start → Searched
-  left next = record { finding = Nothing; rows = stored (c .layout) (next .kept); used = next .used }
+  left next = record { finding = Nothing; rows = stored (c .store) (next .kept); used = next .used }
 
-  module _ (r : Round) (next : Start) (e : r .after ≡ goes next) where
+  module _ (r : Round) (next : Start) (e : r .after ≡ goesOn next) where
     -- some round is made, so filling did not stop the first
     first-made : (k : ℕ) (s : Start) (b : Bool) (short more : Searched) (l : List Round) → 1 ≤ length l
         → (from k s ≡ l → more ≡ left next) → cond b [] (from k s) ≡ l → cond b short more ≡ left next
@@ -86,10 +86,10 @@ module _ (c : Call) where
         after : (a : After) → ((t : Start) → rounds (suc (length before)) c t ≡ before ++ (r ∷ []) → searchFrom (suc (length before)) c t ≡ left next)
             → roundsAfter a (λ t. rounds (suc (length before)) c t) ≡ before ++ (r ∷ [])
             → searchedAfter a (λ t. searchFrom (suc (length before)) c t) ≡ left next
-        after (goes t) more h = more t h
+        after (goesOn t) more h = more t h
         after (ends f rows used) more h = absurd (omega (arith, simp length-append at (ap length h)))
 
-  pub leaves : (before : List Round) (r : Round) (next : Start) → roundsOf (ofRounds (suc (length before)) c) ≡ before ++ (r ∷ []) → r .after ≡ goes next
+  pub leaves : (before : List Round) (r : Round) (next : Start) → roundsOf (ofRounds (suc (length before)) c) ≡ before ++ (r ∷ []) → r .after ≡ goesOn next
       → searched (ofRounds (suc (length before)) c) ≡ left next
   leaves before r next h e =
       let call-is = same (suc (length before)) (suc (length before)) in

@@ -6,7 +6,7 @@ use Rattle.rows.specs.Rows.{Row}
 use Rattle.machine.specs.Runs.{runOf}
 use Rattle.rounds.specs.Calls.{Call}
 use Rattle.rounds.specs.Demand.{All}
-use Rattle.rounds.specs.Rounds.{Start, copies, newRow, usedAfter, rowAfter, outcomeOf, stillRunning, stateOf, chosenOf, goes, ranOn, roundOf}
+use Rattle.rounds.specs.Rounds.{Start, copies, newRow, usedAfter, rowAfter, outcomeOf, stillRunning, stateOf, chosenOf, goesOn, ranOn, roundOf}
 use Rattle.rounds.proofs.Filling.{filled-all}
 use Rattle.rounds.proofs.Keeping.{round-kept, each-once}
 use Rattle.rounds.proofs.Lists.{all-permuted, all-left}
@@ -25,7 +25,7 @@ module _ (c : Call) (s : Start) where
         still-running-all (roundOf c s .runs)
         (run-all-each (c .options .«step_size») (c .tape) each (s .used + copies c s) (filled-all c s kept new))
 
-  module _ (next : Start) (e : roundOf c s .after ≡ goes next) where
+  module _ (next : Start) (e : roundOf c s .after ≡ goesOn next) where
     pub kept-chosen : next .kept ≡ map stateOf (chosenOf (c .options) running .kept)
     unfolding roundOf ranOn
     kept-chosen =

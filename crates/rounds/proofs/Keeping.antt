@@ -17,7 +17,7 @@ use Rattle.answers.specs.declared.finding.Finding.{Finding}
 use Rattle.answers.specs.declared.finding.Finding.the-variants.{Nothing, Found, Failed, TapeShort, ScoresUnordered}
 use Rattle.rounds.specs.Calls.{Call}
 use Rattle.rounds.specs.Demand.{Permutation, All}
-use Rattle.rounds.specs.Rounds.{Start, Ranked, stateOf, rankedAmong, lower, chosenOf, After, goes, endsOr, selected}
+use Rattle.rounds.specs.Rounds.{Start, Ranked, stateOf, rankedAmong, lower, chosenOf, After, goesOn, endsOr, selected}
 use Rattle.rounds.proofs.Choosing.{rarest-each-once, rarest-as-many, rarest-lowest}
 use Rattle.rounds.proofs.Floats.{lt-irreflexive, lt-transitive, not-lt-le}
 use Rattle.rounds.proofs.Lists.{permutation-map, all-permuted, all-left, all-right, all-mem, all-with, all-both, all-among, all-map}
@@ -27,13 +27,13 @@ either : {A : Type 0} {x y z : After} (b : Bool) → cond b x y ≡ z → (x ≡
 either true e f g = f e
 either false e f g = g e
 
-goes-kept : (c : Call) (rows : List Row) (used : ℕ) (running : List Row) (next : Start) → selected (c .options) rows used running ≡ goes next
+goes-kept : (c : Call) (rows : List Row) (used : ℕ) (running : List Row) (next : Start) → selected (c .options) rows used running ≡ goesOn next
     → next .kept ≡ map stateOf (chosenOf (c .options) running .kept)
 unfolding selected
 goes-kept c rows used running next e = either (areOrdered (scoresOf (c .options .mean) running)) e (λ p. cc) (λ p. cc)
 
 pub round-kept : (c : Call) (f : Finding) (rows : List Row) (used : ℕ) (running : List Row) (next : Start)
-    → endsOr f rows used (selected (c .options) rows used running) ≡ goes next → next .kept ≡ map stateOf (chosenOf (c .options) running .kept)
+    → endsOr f rows used (selected (c .options) rows used running) ≡ goesOn next → next .kept ≡ map stateOf (chosenOf (c .options) running .kept)
 round-kept c Nothing rows used running next e = goes-kept c rows used running next e
 round-kept c (Found bug i pc) rows used running next e = let z : _≡_ {A = ℕ} 0 1 = cc in absurd (omega arith)
 round-kept c (Failed error i pc) rows used running next e = let z : _≡_ {A = ℕ} 0 1 = cc in absurd (omega arith)
@@ -83,7 +83,7 @@ module _ (c : Call) (rows : List Row) (few : length rows ≤ 4096) (short : All 
 
   -- 31 is not given, so the round goes on with what is chosen
   pub goes-on : (left : List Row) (used : ℕ)
-      → selected (c .options) left used rows ≡ goes (record { kept = map stateOf (chosenOf (c .options) rows .kept); used = used })
+      → selected (c .options) left used rows ≡ goesOn (record { kept = map stateOf (chosenOf (c .options) rows .kept); used = used })
   unfolding selected
   goes-on left used = rw (scores-ordered m rows few (λ r i. all-mem i short))
 

@@ -12,12 +12,12 @@ layoutOf o log = layout (o .«amount_of_states») (o .«memory_size» / 8) log
 
 pub record Call : Type 0 where
   pub options : RaritySimulationOptions
-  pub layout : Layout
+  pub store : Layout
   pub image : Program
   pub tape : List ℕ
 
 abbrev pub call : RaritySimulationOptions → Layout → Program → List ℕ → Call
-call o s p tape = record { options = o; layout = s; image = p; tape = tape }
+call o s p tape = record { options = o; store = s; image = p; tape = tape }
 
 -- the same call with another number of rounds
 abbrev pub ofRounds : ℕ → Call → Call
@@ -33,7 +33,7 @@ ofRounds k c =
             «copy_init_ratio» = c .options .«copy_init_ratio»;
             mean = c .options .mean;
           };
-      layout = c .layout;
+      store = c .store;
       image = c .image;
       tape = c .tape;
     }

@@ -1,6 +1,7 @@
 -- How many of the missing executors are copies ("Filling" in document 01).
-use mathlib.Core.Bool.{true, false}
-use Prim.Native.Nat.{ℕ, _+_, _*_, _/_}
+use mathlib.Core.Bool.{true, false, cond}
+use Prim.Native.Nat.{ℕ, _+_, _-_, _*_, _/_}
+use lib.Dec.{eqb}
 use lib.IntN.{pos}
 use lib.Ieee.{Float, nan, inf, fin, binary64, mul, ofInt, up, down}
 
@@ -15,3 +16,7 @@ nearest (fin false m e) = (2 * (m * up e) + down e) / (2 * down e)
 -- missing × ratio, one f64 product, rounded to the nearest whole number, halves up
 unfoldable pub toCopy : ℕ → Float → ℕ
 toCopy missing ratio = nearest (mul binary64 (ofInt binary64 (pos missing)) ratio)
+
+-- of so many rows, so many being kept; 0 if none are kept
+abbrev pub copiesOf : ℕ → ℕ → Float → ℕ
+copiesOf rows kept ratio = cond (eqb kept 0) 0 (toCopy (rows - kept) ratio)

@@ -9,7 +9,7 @@ use Rattle.means.specs.Means.{Fraction, exactMean, AtMost}
 use Rattle.counting.specs.Counters.{countersOf}
 use Rattle.answers.specs.declared.finding.Finding.the-variants.{Nothing}
 use Rattle.rounds.specs.Calls.{Call, ofRounds}
-use Rattle.rounds.specs.Rounds.{Start, stored, outcomeOf, stillRunning, stateOf, chosenOf, Round, goes, roundsOf, searched}
+use Rattle.rounds.specs.Rounds.{Start, stored, outcomeOf, stillRunning, stateOf, chosenOf, Round, goesOn, roundsOf, searched}
 
 module _ {A : Type 0} where
   -- l becomes m when x is put in somewhere
@@ -45,17 +45,17 @@ pub record Fair (c : Call) (r : Round) (next : Start) : Type 0 where
   -- a kept state's exact mean times 2^30 is at most a passed one's times 2^30 + 1
   pub rarest : All (λ x. All (λ y. AtMost (exactRarity c r x) (exactRarity c r y)) (passedOver c r)) (next .kept)
   -- a kept row is not a zero row
-  pub not-zero : All (λ x. x ≡ zeroRow (c .layout) → ⊥) (next .kept)
+  pub not-zero : All (λ x. x ≡ zeroRow (c .store) → ⊥) (next .kept)
 
 -- a round that goes on, and is fair
-pub record GoesOn (c : Call) (r : Round) : Type 0 where
+pub record GoesOnFairly (c : Call) (r : Round) : Type 0 where
   pub next : Start
-  pub goes-on : r .after ≡ goes next
+  pub goes-on : r .after ≡ goesOn next
   pub fair : Fair c r next
 
 -- a round in which no row meets a bug or an error does
 abbrev pub FairRound : Call → Round → Type 0
-FairRound c r = outcomeOf (r .runs) ≡ Nothing → GoesOn c r
+FairRound c r = outcomeOf (r .runs) ≡ Nothing → GoesOnFairly c r
 
 -- the whole list of a call's rounds
 pub record Demand (c : Call) : Type 0 where
@@ -63,5 +63,5 @@ pub record Demand (c : Call) : Type 0 where
   -- a call with fewer rounds has the front of the list
   pub front : (k : ℕ) → k ≤ c .options .iterations → roundsOf (ofRounds k c) ≡ take k (roundsOf c)
   -- what is kept is what the call leaves not zero if that round is its last
-  pub leaves : (before : List Round) (r : Round) (next : Start) → roundsOf (ofRounds (suc (length before)) c) ≡ before ++ (r ∷ []) → r .after ≡ goes next
-      → searched (ofRounds (suc (length before)) c) ≡ record { finding = Nothing; rows = stored (c .layout) (next .kept); used = next .used }
+  pub leaves : (before : List Round) (r : Round) (next : Start) → roundsOf (ofRounds (suc (length before)) c) ≡ before ++ (r ∷ []) → r .after ≡ goesOn next
+      → searched (ofRounds (suc (length before)) c) ≡ record { finding = Nothing; rows = stored (c .store) (next .kept); used = next .used }

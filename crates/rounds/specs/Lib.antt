@@ -3,4 +3,4 @@ pub mod Copies
 pub mod Selection
 pub mod Rounds
 pub mod Demand
-pub mod Holding
+pub mod Handed

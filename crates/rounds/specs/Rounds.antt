@@ -2,7 +2,7 @@
 use mathlib.Core.Bool.{Bool, true, false, cond}
 use mathlib.Core.List.{List, [], _∷_, _++_, map}
 use Prim.Native.Nat.{ℕ, zero, suc, _+_, _-_, _%_}
-use lib.Dec.{eqb, ltb}
+use lib.Dec.{ltb}
 use lib.Ieee.{Float, lt}
 use lib.ListN.{length, take, drop, replicate}
 use Rattle.answers.specs.declared.outcome.Outcome.the-variants as outcome
@@ -20,7 +20,7 @@ use Rattle.answers.specs.declared.finding.Finding.{Finding}
 use Rattle.answers.specs.declared.finding.Finding.the-variants.{Nothing, Found, Failed, TapeShort, ScoresUnordered}
 use Rattle.options.specs.declared.RaritySimulationOptions.{RaritySimulationOptions}
 use Rattle.rounds.specs.Calls.{Call}
-use Rattle.rounds.specs.Copies.{toCopy}
+use Rattle.rounds.specs.Copies.{copiesOf}
 use Rattle.rounds.specs.Selection.{Chosen, rarest}
 
 -- what a round starts from: the rows kept, and how many tape words are used
@@ -38,11 +38,10 @@ stored s kept = kept ++ replicate (s .rows - length kept) (zeroRow s)
 
 -- ---- filling (create_missing_executors)
 abbrev pub missing : Call → Start → ℕ
-missing c s = c .layout .rows - length (s .kept)
+missing c s = c .store .rows - length (s .kept)
 
--- 0 if none are kept
 abbrev pub copies : Call → Start → ℕ
-copies c s = cond (eqb (length (s .kept)) 0) 0 (toCopy (missing c s) (c .options .«copy_init_ratio»))
+copies c s = copiesOf (c .store .rows) (length (s .kept)) (c .options .«copy_init_ratio»)
 
 -- 8: fewer tape words left than copies to make
 unfoldable pub tapeShort : Call → Start → Bool
@@ -53,7 +52,7 @@ abbrev pub parent : List Row → ℕ → Row
 parent kept word = rowAt kept (word % length kept)
 
 abbrev pub newRow : Call → Row
-newRow c = newExecutor (c .image) (c .layout .words) (c .layout .marks)
+newRow c = newExecutor (c .image) (c .store .words) (c .store .marks)
 
 -- copies come first, then new executors
 unfoldable pub filled : Call → Start → List Row
@@ -134,7 +133,7 @@ chosenOf o rows = rarest lower (o .selection) (map (rankedAmong (o .mean) rows) 
 -- ---- a round
 -- the search goes on, or it ends with a finding, the rows of the store and the tape words used
 pub data After : Type 0 where
-  goes : Start → After
+  goesOn : Start → After
   ends : Finding → List Row → ℕ → After
 
 -- with a bug or error the rows stay as the runs left them
@@ -149,7 +148,7 @@ endsOr ScoresUnordered rows used next = ends ScoresUnordered rows used
 unfoldable pub selected : RaritySimulationOptions → List Row → ℕ → List Row → After
 selected o rows used running =
     cond (areOrdered (scoresOf (o .mean) running))
-    (goes (record { kept = map stateOf (chosenOf o running .kept); used = used }))
+    (goesOn (record { kept = map stateOf (chosenOf o running .kept); used = used }))
     (ends ScoresUnordered rows used)
 
 pub record Round : Type 0 where
@@ -169,7 +168,7 @@ roundOf c s = ranOn (c .options) (c .tape) (s .used + copies c s) (filled c s)
 
 -- ---- the rounds of a call, at most n from a start on; a round that filling stops is none
 abbrev pub roundsAfter : After → (Start → List Round) → List Round
-roundsAfter (goes s) more = more s
+roundsAfter (goesOn s) more = more s
 roundsAfter (ends f rows used) more = []
 
 unfoldable pub rounds : ℕ → Call → Start → List Round
@@ -187,15 +186,15 @@ pub record Searched : Type 0 where
   pub used : ℕ
 
 abbrev pub searchedAfter : After → (Start → Searched) → Searched
-searchedAfter (goes s) more = more s
+searchedAfter (goesOn s) more = more s
 searchedAfter (ends f rows used) more = record { finding = f; rows = rows; used = used }
 
 -- after the last round the answer is 0; 8 ends the search where it is met
 unfoldable pub searchFrom : ℕ → Call → Start → Searched
-searchFrom zero c s = record { finding = Nothing; rows = stored (c .layout) (s .kept); used = s .used }
+searchFrom zero c s = record { finding = Nothing; rows = stored (c .store) (s .kept); used = s .used }
 searchFrom (suc n) c s =
     cond (tapeShort c s)
-    (record { finding = TapeShort; rows = stored (c .layout) (s .kept); used = s .used })
+    (record { finding = TapeShort; rows = stored (c .store) (s .kept); used = s .used })
     (searchedAfter (roundOf c s .after) (λ next. searchFrom n c next))
 
 -- what a call answers and leaves

@@ -22,6 +22,11 @@ pub struct AllRan {
     pub used: usize,
 }
 
+// The precedences of an error and of a bug; nothing has 0.
+const ERROR: u8 = 1;
+
+const BUG: u8 = 2;
+
 // A bug stands against an error, and anything stands against nothing.
 fn precedence(finding: Finding) -> u8
     ensures { λ n. ⌜ n ≡ precedenceOf finding ⌝ }
@@ -32,14 +37,14 @@ fn precedence(finding: Finding) -> u8
             bug: _,
             row: _,
             pc: _,
-        } => 2,
+        } => BUG,
         Finding::Failed {
             error: _,
             row: _,
             pc: _,
-        } => 1,
-        Finding::TapeShort => 1,
-        Finding::ScoresUnordered => 1,
+        } => ERROR,
+        Finding::TapeShort => ERROR,
+        Finding::ScoresUnordered => ERROR,
     }
 }
 
@@ -56,13 +61,13 @@ fn choose(best: Finding, row: usize, ran: Ran) -> Finding
     match outcome {
         Outcome::Exited => best,
         Outcome::Found(bug) => {
-            if precedence(best) < 2 {
+            if precedence(best) < BUG {
                 return Finding::Found { bug, row, pc };
             }
             best
         }
         Outcome::Failed(error) => {
-            if precedence(best) < 1 {
+            if precedence(best) < ERROR {
                 return Finding::Failed { error, row, pc };
             }
             best

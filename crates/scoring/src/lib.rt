@@ -17,6 +17,7 @@ use checks::valid_row::valid_row;
 use means::MeanType;
 use rarity::are_ordered;
 use rarity::score_rows;
+use rows::limits::MOST_ROWS;
 use store::layout::Layout;
 
 // What scoring answers.
@@ -104,9 +105,6 @@ fn copy_scores(from: &[f64], to: &mut [f64])
         i += 1;
     }
 }
-
-// The largest amount of states.
-const MOST_ROWS: usize = 4096;
 
 // Scores all rows; the lent scores are written only if they can be ordered.
 fn score_store(

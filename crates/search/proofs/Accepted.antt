@@ -2,7 +2,7 @@
 use mathlib.Core.Path.{_≡_, refl, sym, _∙_, subst}
 use mathlib.Core.Bool.{Bool}
 use mathlib.Core.List.{List}
-use Prim.Native.Nat.{ℕ, _-_, _/_, _≤_}
+use Prim.Native.Nat.{ℕ, _/_, _≤_}
 use native.Mathlib.Nat.{add-sub-cancel-left}
 use lib.Dec.{T}
 use lib.ListN.{length}
@@ -14,9 +14,10 @@ use Rattle.checks.specs.declared.refusal.Checked.the-variants.{Accepted}
 use Rattle.checks.proofs.Fitting.{segments-fit}
 use Rattle.checks.proofs.Passed.{store-lengths, log-size}
 use Rattle.checks.proofs.Tests.{all-pass}
-use Rattle.store.specs.Store.{Fit}
+use Rattle.store.specs.Store.{Fit, memoryOf}
 use Rattle.store.proofs.Lent.{lengths-fit}
 use Rattle.rounds.specs.Calls.{layoutOf, call}
+use Rattle.rounds.specs.Handed.{Loadable}
 use Rattle.options.specs.declared.RaritySimulationOptions.{RaritySimulationOptions}
 use Rattle.rounds.proofs.Demand.{demand}
 use Rattle.search.specs.Entry.{callTests, searchChecked, Demanded}
@@ -28,8 +29,7 @@ pub record Allowed (o : RaritySimulationOptions) (log : ℕ) (p : Program) (word
   pub ratio : T (isCopyRatio (o .«copy_init_ratio»))
   pub memory : o .«memory_size» / 8 ≤ 131072
   pub log-words : log ≤ 65536
-  pub code-fits : Fits (layoutOf o log .marks - 32) (p .codeSegment)
-  pub data-fits : Fits (layoutOf o log .marks - 32) (p .dataSegment)
+  pub loadable : Loadable (layoutOf o log) p
 
 module _ (o : RaritySimulationOptions) (log : ℕ) (p : Program) (words marks : List ℕ) where
   -- what the tests say of a call
@@ -38,7 +38,7 @@ module _ (o : RaritySimulationOptions) (log : ℕ) (p : Program) (words marks : 
   unfolding searchChecked
   checked-as e k = sym e ∙ k
 
-  in-words : (s : Segment) → Fits (o .«memory_size» / 8) s → Fits (layoutOf o log .marks - 32) s
+  in-words : (s : Segment) → Fits (o .«memory_size» / 8) s → Fits (memoryOf (layoutOf o log)) s
   in-words s f = subst (λ (w : ℕ). Fits w s) (sym (add-sub-cancel-left 32 (o .«memory_size» / 8))) f
 
   allowed-by : searchChecked o log p words marks ≡ Accepted → Allowed o log p words marks
@@ -53,8 +53,7 @@ module _ (o : RaritySimulationOptions) (log : ℕ) (p : Program) (words marks : 
         ratio = subst (λ (b : Bool). T b) (sym (t .1 .1 .0)) tt;
         memory = b .2;
         log-words = log-size log (t .1 .1 .1 .0);
-        code-fits = in-words (p .codeSegment) (f .0);
-        data-fits = in-words (p .dataSegment) (f .1);
+        loadable = record { code-fits = in-words (p .codeSegment) (f .0); data-fits = in-words (p .dataSegment) (f .1) };
       }
 
   pub allowed : {r : Checked} → r ≡ checkedBy (callTests o log p (length words) (length marks)) → r ≡ Accepted

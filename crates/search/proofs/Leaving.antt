@@ -2,16 +2,16 @@
 use mathlib.Core.Path.{_≡_, sym, ap, _∙_}
 use mathlib.Core.List.{List}
 use Prim.Native.Nat.{ℕ, _-_}
-use native.Mathlib.Nat.{sub-zero}
+use native.Mathlib.Omega.{arith}
 use lib.ListN.{length, replicate}
-use Rattle.loader.specs.Loading.{Program, Fits}
+use Rattle.loader.specs.Loading.{Program}
 use Rattle.checks.specs.declared.refusal.Refusal.{Refusal}
 use Rattle.checks.specs.declared.refusal.Checked.the-variants as checked
-use Rattle.store.specs.Store.{Fit, rowsOf, wordsOf, marksOf}
+use Rattle.store.specs.Store.{Fit, rowsOf, wordsOf, marksOf, zeroRow}
 use Rattle.store.specs.declared.layout.Layout.{Layout}
 use Rattle.store.proofs.Rows.{words-flat, marks-flat, fit-same}
-use Rattle.rows.specs.Rows.{Row}
 use Rattle.rounds.specs.Calls.{layoutOf, call}
+use Rattle.rounds.specs.Handed.{Callable, Holding}
 use Rattle.rounds.specs.Rounds.{searched}
 use Rattle.options.specs.declared.RaritySimulationOptions.{RaritySimulationOptions}
 use Rattle.search.specs.Entry.{searchChecked, searchedAs, left, searchLeft, searchEntry}
@@ -30,15 +30,16 @@ module _ {o : RaritySimulationOptions} {log : ℕ} {p : Program} {words marks : 
   pub lent-fit : Fit s words marks
   lent-fit = rw e (call-is .fit)
 
-  pub code-inside : Fits (s .marks - 32) (p .codeSegment)
-  code-inside = rw e (call-is .code-fits)
-
-  pub data-inside : Fits (s .marks - 32) (p .dataSegment)
-  data-inside = rw e (call-is .data-fits)
+  pub callable : (tape : List ℕ) → Callable (call o s p tape)
+  callable tape = record { ratio = call-is .ratio; loadable = rw e (call-is .loadable) }
 
   module _ (words′ marks′ : List ℕ) (ew : length words′ ≡ length words) (em : length marks′ ≡ length marks) where
-    pub still-fit : Fit s words′ marks′
+    still-fit : Fit s words′ marks′
     still-fit = fit-same words′ marks′ lent-fit ew em
+
+    -- a store that was zeroed from row 0 on
+    pub zeroed : rowsOf s words′ marks′ ≡ replicate (s .rows - 0) (zeroRow s) → Holding s words′ marks′ 0
+    zeroed e = record { fit = still-fit; few = omega arith; rest = e }
 
     pub left-accepted : (tape : List ℕ) (a : SearchAnswer)
         → searchedAs a (rowsOf s words′ marks′) (searched (call o s p tape))
@@ -49,7 +50,3 @@ module _ {o : RaritySimulationOptions} {log : ℕ} {p : Program} {words marks : 
         let flat-words = sym (words-flat (s .rows) (s .words) (s .marks) words′ marks′ (f .all-words)) ∙ ap wordsOf (x .1) in
         let flat-marks = sym (marks-flat (s .rows) (s .words) (s .marks) words′ marks′ (f .all-marks)) ∙ ap marksOf (x .1) in
         rw (call-is .accepted, ← e, flat-words, flat-marks, x .0)
-
--- all rows are zero where those from row 0 on are
-pub all-zero : {rows : List Row} (n : ℕ) (r : Row) → rows ≡ replicate (n - 0) r → rows ≡ replicate n r
-all-zero n r e = e ∙ ap (λ (k : ℕ). replicate k r) (sub-zero n)

@@ -1,4 +1,4 @@
 pub mod Accepted
 pub mod Limits
-pub mod Turning
+pub mod Going
 pub mod Leaving

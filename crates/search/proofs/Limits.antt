@@ -12,7 +12,7 @@ use Rattle.invariants.proofs.Limits.{run-limit}
 use Rattle.store.specs.Store.{Sized}
 use Rattle.rounds.specs.Calls.{Call}
 use Rattle.rounds.specs.Demand.{All}
-use Rattle.rounds.specs.Rounds.{Start, newRow, goes, roundOf}
+use Rattle.rounds.specs.Rounds.{Start, newRow, goesOn, roundOf}
 use Rattle.rounds.proofs.Handing.{running-all, kept-all}
 use Rattle.rounds.proofs.Lists.{all-at}
 use Rattle.running.specs.Running.{LimitsAllow}
@@ -31,17 +31,17 @@ run-low b step tape used r h =
       low = omega (arith, h .low, run-limit step tape used r (h .shape));
     }
 
-new-low : (c : Call) (b : ℕ) → Sized (c .layout) → Low b (newRow c)
+new-low : (c : Call) (b : ℕ) → Sized (c .store) → Low b (newRow c)
 new-low c b sized =
-    let words = new-words (c .image) (c .layout .words) (c .layout .marks) in
-    let marks = new-marks (c .image) (c .layout .words) (c .layout .marks) in
+    let words = new-words (c .image) (c .store .words) (c .store .marks) in
+    let marks = new-marks (c .image) (c .store .words) (c .store .marks) in
     record {
       shape = record { registers = omega (arith, sized .registers); slots = omega (arith, sized .slots) };
-      low = omega (arith, new-limit (c .image) (c .layout .words) (c .layout .marks) (sized .registers) (sized .slots));
+      low = omega (arith, new-limit (c .image) (c .store .words) (c .store .marks) (sized .registers) (sized .slots));
     }
 
 -- a round that goes on
-pub round-low : (c : Call) (s next : Start) (b : ℕ) → Sized (c .layout) → All (Low b) (s .kept) → roundOf c s .after ≡ goes next
+pub round-low : (c : Call) (s next : Start) (b : ℕ) → Sized (c .store) → All (Low b) (s .kept) → roundOf c s .after ≡ goesOn next
     → All (Low (b + c .options .«step_size»)) (next .kept)
 round-low c s next b sized kept e =
     kept-all c s next e (running-all c s (run-low b (c .options .«step_size») (c .tape)) kept (new-low c b sized))

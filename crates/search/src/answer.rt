@@ -5,6 +5,7 @@ use answers::answer::Answer;
 use answers::finding::Finding;
 use checks::refusal::Refusal;
 
+// A call is refused, or it is searched.
 pub enum SearchAnswer {
     Refused(Refusal),
     // What was found, and how many tape words were taken.
@@ -12,6 +13,7 @@ pub enum SearchAnswer {
 }
 
 impl SearchAnswer {
+    // The answer in numbers.
     pub fn answer(self) -> Answer
         ensures { λ r. ⌜ r ≡ searchAnswer self ⌝ }
     {

@@ -1,13 +1,9 @@
 // The rarity search for hosts: a store is lent, and nothing is asked of the caller. What is refused changes nothing.
 ghost use mathlib.Core.Path.{_≡_};
-ghost use Prim.Native.Nat.{_-_};
-ghost use lib.Dec.{T};
-ghost use lib.ListN.{replicate};
-ghost use Rattle.checks.specs.Refusals.{isCopyRatio};
 ghost use Rattle.checks.specs.Tests.{checkedBy};
-ghost use Rattle.loader.specs.Loading.{segment, image, Fits};
-ghost use Rattle.store.specs.Store.{Fit, rowsOf, zeroRow};
-ghost use Rattle.rounds.specs.Calls.{call};
+ghost use Rattle.loader.specs.Loading.{image};
+ghost use Rattle.store.specs.Store.{rowsOf};
+ghost use Rattle.rounds.specs.Handed.{callOf, Callable, Holding};
 ghost use Rattle.rounds.specs.Rounds.{searched};
 ghost use Rattle.search.specs.Entry.{optionTests, callTests, searchedAs, left, searchEntry, Demanded};
 
@@ -24,10 +20,12 @@ use checks::refusal::is_log_size;
 use checks::refusal::is_memory_size;
 use checks::segments::check_segments;
 use options::RaritySimulationOptions;
+use round::AfterRound;
+use round::round;
+use rounds::call::Call;
+use rounds::call::Start;
 use store::layout::Layout;
 use store::zero::zero_rows;
-use turns::Turn;
-use turns::round;
 
 // Numbers 1 to 5.
 fn check_options(options: RaritySimulationOptions, log: u64, words: usize, marks: usize) -> Checked
@@ -82,57 +80,34 @@ fn check_call(
 fn search_rounds(
     words: &mut [u64],
     marks: &mut [u8],
-    store: Layout,
-    options: RaritySimulationOptions,
-    code_address: u64,
+    call: Call,
     code: &[u8],
-    data_address: u64,
     data: &[u8],
     tape: &[u64],
 ) -> SearchAnswer
-    requires { ⌜ Fit store (now words) (now marks) ⌝ }
-    requires { ⌜ rowsOf store (now words) (now marks) ≡ replicate (store .rows) (zeroRow store) ⌝ }
-    requires { ⌜ T (isCopyRatio (options .«copy_init_ratio»)) ⌝ }
-    requires { ⌜ Fits (store .marks - 32) (segment «code_address» (now code)) ⌝ }
-    requires { ⌜ Fits (store .marks - 32) (segment «data_address» (now «data»)) ⌝ }
-    ensures { λ r. ⌜ searchedAs r (rowsOf store (now (words .exit)) (now (marks .exit)))
-        (searched (call options store (image «code_address» (now (code .entry)) «data_address» (now («data» .entry)))
-        (now (tape .entry)))) ⌝ }
+    requires { ⌜ Holding (call .store) (now words) (now marks) 0 ⌝ }
+    requires { ⌜ Callable (callOf call (now code) (now «data») (now tape)) ⌝ }
+    ensures { λ r. ⌜ searchedAs r (rowsOf (call .store) (now (words .exit)) (now (marks .exit)))
+        (searched (callOf call (now (code .entry)) (now («data» .entry)) (now (tape .entry)))) ⌝ }
 {
-    let mut kept = 0;
-    let mut used = 0;
+    let rounds = call.options.iterations;
+    let mut start = Start { kept: 0, used: 0 };
     let mut i = 0;
-    while i < options.iterations {
-        let turn = round(
-            words,
-            marks,
-            store,
-            options,
-            kept,
-            code_address,
-            code,
-            data_address,
-            data,
-            tape,
-            used,
-        );
-        match turn {
-            Turn::Ends { finding, used } => {
-                return SearchAnswer::Searched { finding, used };
+    while i < rounds {
+        let after = round(words, marks, call, code, data, tape, start);
+        match after {
+            AfterRound::GoesOn(next) => {
+                start = next;
             }
-            Turn::Goes {
-                kept: rarest,
-                used: taken,
-            } => {
-                kept = rarest;
-                used = taken;
+            AfterRound::Ends { finding, used } => {
+                return SearchAnswer::Searched { finding, used };
             }
         }
         i += 1;
     }
     SearchAnswer::Searched {
         finding: Finding::Nothing,
-        used,
+        used: start.used,
     }
 }
 
@@ -173,17 +148,13 @@ pub fn search_for_bugs(
                 log,
             );
             zero_rows(words, marks, store, 0);
-            search_rounds(
-                words,
-                marks,
-                store,
+            let call = Call {
                 options,
+                store,
                 code_address,
-                code,
                 data_address,
-                data,
-                tape,
-            )
+            };
+            search_rounds(words, marks, call, code, data, tape)
         }
         Checked::Refused(refusal) => SearchAnswer::Refused(refusal),
     }

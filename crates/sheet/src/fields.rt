@@ -13,6 +13,7 @@ use options::STEP_SIZE;
 use options::default_mean;
 use options::mean_number;
 
+// What a sheet begins with: its numbers in this order, eight bytes each.
 pub struct Fields {
     pub states: u64,
     pub step: u64,

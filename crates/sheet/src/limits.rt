@@ -5,6 +5,15 @@ ghost use Rattle.sheet.specs.Sheets.{benchLimits};
 // The most bytes of a sheet that the bench program takes.
 pub const MOST_SHEET: usize = 61_440;
 
+// The most states that it takes.
+pub const MOST_STATES: usize = 8;
+
+// The most bytes of memory that it takes.
+pub const MOST_MEMORY: usize = 1024;
+
+// The most log words of a row that it takes.
+pub const MOST_LOG: usize = 64;
+
 // The most bytes of a sheet, states, bytes of memory and log words.
 pub struct Limits {
     pub bytes: u64,
@@ -20,9 +29,9 @@ impl Limits {
     {
         Limits {
             bytes: MOST_SHEET as u64,
-            states: 8,
-            memory: 1024,
-            log: 64,
+            states: MOST_STATES as u64,
+            memory: MOST_MEMORY as u64,
+            log: MOST_LOG as u64,
         }
     }
 }

@@ -19,6 +19,7 @@ pub struct Part {
     pub length: usize,
 }
 
+// What a sheet asks for.
 pub struct Sheet {
     pub options: RaritySimulationOptions,
     pub log: u64,
@@ -28,6 +29,7 @@ pub struct Sheet {
     pub tape_words: usize,
 }
 
+// Why some bytes are no sheet that the program takes.
 pub enum SheetError {
     SheetLength,
     PartPastEnd,
@@ -35,12 +37,14 @@ pub enum SheetError {
     AboveLimit,
 }
 
+// What some bytes are as a sheet.
 pub enum Parsed {
     Refused(SheetError),
     Accepted(Sheet),
 }
 
 impl SheetError {
+    // Numbers 51 to 54.
     pub fn number(self) -> u64
         ensures { λ r. ⌜ r ≡ sheetNumber self ⌝ }
     {
@@ -72,7 +76,9 @@ fn float_of(bits: u64) -> f64
 }
 
 fn sheet_of(f: Fields) -> Sheet
-    requires { ⌜ f .step < 2 ^ 32 ⌝ ∗ ⌜ f .selection < 2 ^ 32 ⌝ ∗ ⌜ f .rounds < 2 ^ 32 ⌝ }
+    requires { ⌜ f .step < 2 ^ 32 ⌝ }
+    requires { ⌜ f .selection < 2 ^ 32 ⌝ }
+    requires { ⌜ f .rounds < 2 ^ 32 ⌝ }
     ensures { λ r. ⌜ r ≡ sheetOf f ⌝ }
 {
     Sheet {

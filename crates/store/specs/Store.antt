@@ -29,11 +29,12 @@ cut (suc n) w m words marks = row (take w words) (take m marks) ∷ cut n w m (d
 abbrev pub rowsOf : Layout → List ℕ → List ℕ → List Row
 rowsOf s words marks = cut (s .rows) (s .words) (s .marks) words marks
 
--- the words of some rows, one row after the other, and their marks
+-- the words of some rows, one row after the other
 unfoldable pub wordsOf : List Row → List ℕ
 wordsOf [] = []
 wordsOf (r ∷ rs) = r .words ++ wordsOf rs
 
+-- and their marks
 unfoldable pub marksOf : List Row → List ℕ
 marksOf [] = []
 marksOf (r ∷ rs) = r .marks ++ marksOf rs

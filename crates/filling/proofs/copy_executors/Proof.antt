@@ -7,24 +7,24 @@ use borrow.Author.Needs.{needs}
 use Rattle.store.specs.Store.{rowsOf}
 use Rattle.store.proofs.Rows.{fit-same}
 use Rattle.rounds.specs.Rounds.{stored}
-use Rattle.filling.specs.Copied.{withCopies}
+use Rattle.filling.specs.Filling.{withCopies}
 use Rattle.filling.proofs.Fronts.{Front, kept-length, kept-front, copy-none, drawn-before, copy-more}
 use Rattle.filling.proofs.copy_executors.Statement.{statement}
 use Rattle.filling.proofs.copy_executors.Tie as tie
 
 abbrev Inv-loop : tie.InvT-loop
-Inv-loop words₀ marks₀ store kept count tape used i₀ words marks i =
+Inv-loop words₀ marks₀ store tape count kept used i₀ words marks i =
     (i ≤ count) × Front store (withCopies (take kept (rowsOf store words₀ marks₀)) (take i (drop used tape))) words marks
 
 abbrev μ-loop : tie.MeasureT-loop
-μ-loop words₀ marks₀ store kept count tape used i₀ words marks i = count - i
+μ-loop words₀ marks₀ store tape count kept used i₀ words marks i = count - i
 
 loop-holds : tie.Need-loop-holds Inv-loop μ-loop
 loop-holds c =
     let s = c .before .before .before in
     let a = s .args in
-    let kept = take (a .kept) (rowsOf (a .store) (a .words .now) (a .marks .now)) in
-    (omega arith, copy-none (a .store) kept (drop (a .used) (a .tape .now)) (kept-front (s .pre .0)))
+    let kept = take (a .start .kept) (rowsOf (a .store) (a .words .now) (a .marks .now)) in
+    (omega arith, copy-none (a .store) kept (drop (a .start .used) (a .tape .now)) (kept-front (s .pre .0)))
 
 add-draw : tie.Need-add-draw Inv-loop μ-loop
 add-draw c = search needs
@@ -61,13 +61,13 @@ loop-again c =
     let a = s .args in
     let l = c .before .before .before .before .before .before .before .before .before .loop in
     let t = c .before .before .before .before .copy-row in
-    let kept = take (a .kept) (rowsOf (a .store) (a .words .now) (a .marks .now)) in
-    let draws = drop (a .used) (a .tape .now) in
+    let kept = take (a .start .kept) (rowsOf (a .store) (a .words .now) (a .marks .now)) in
+    let draws = drop (a .start .used) (a .tape .now) in
     let h : l .i < a .count = c .before .before .before .before .before .before .before .before .loop-test .taken in
-    let drawn = sym (getD-drop (a .used) (a .tape .now) (l .i) 0) in (
+    let drawn = sym (getD-drop (a .start .used) (a .tape .now) (l .i) 0) in (
       omega arith,
-      copy-more (a .store) kept draws (t .last .0) (t .last .1 .0) (a .kept) (l .i) _ (kept-length (s .pre .0)) (s .pre .1 .1 .0 (omega arith))
-          (omega (arith, length-drop (a .used) (a .tape .now), s .pre .1 .1 .1)) (omega (arith, s .pre .1 .0))
+      copy-more (a .store) kept draws (t .last .0) (t .last .1 .0) (a .start .kept) (l .i) _ (kept-length (s .pre .0)) (s .pre .1 .1 .0 (omega arith))
+          (omega (arith, length-drop (a .start .used) (a .tape .now), s .pre .1 .1 .1)) (omega (arith, s .pre .1 .0))
           (fit-same (t .last .0) (t .last .1 .0) (l .inv .1 .fit) (t .kept .0) (t .kept .1 .0)) drawn (t .ensures) (l .inv .1),
     )
 
@@ -82,9 +82,9 @@ returns c =
     let s = c .before .before .before .before .before in
     let a = s .args in
     let l = c .before .loop in
-    let kept = take (a .kept) (rowsOf (a .store) (a .words .now) (a .marks .now)) in
+    let kept = take (a .start .kept) (rowsOf (a .store) (a .words .now) (a .marks .now)) in
     let all : l .i ≡ a .count = omega (arith, l .inv .0) in
-    l .inv .1 .rows ∙ ap (λ (n : ℕ). stored (a .store) (withCopies kept (take n (drop (a .used) (a .tape .now))))) all
+    l .inv .1 .rows ∙ ap (λ (n : ℕ). stored (a .store) (withCopies kept (take n (drop (a .start .used) (a .tape .now))))) all
 
 pub copy-executors-spec : {M : Type 1} → statement M
 copy-executors-spec =

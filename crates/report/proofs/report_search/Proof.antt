@@ -7,7 +7,7 @@ use Rattle.report.proofs.Zeros.{zeros}
 use Rattle.store.specs.Store.{rowsOf}
 use Rattle.store.proofs.Fronts.{front-length, front-part}
 use Rattle.report.specs.Printing.{answerLines}
-use Rattle.report.proofs.Stores.{memory-few, log-few, words-few, marks-few, words-lent, marks-lent, search-printed}
+use Rattle.report.proofs.Stores.{mostWords, memory-few, log-few, words-few, marks-few, words-lent, marks-lent, search-printed}
 use Rattle.report.proofs.Texts.{printed-as}
 use Rattle.report.proofs.report_search.Statement.{statement}
 use Rattle.report.proofs.report_search.Tie as tie
@@ -65,7 +65,7 @@ part-report-answer-end c =
     let new = c .before .before .before .before .before .before .before .before .new in
     let store = new .result in
     let few = words-few (s .args .sheet .now) (s .args .asked) (s .pre) (new .ensures) in
-    front-length (store .rows * store .words) (zeros 1832) (x .last .1 .1 .0) few (x .kept .1 .1 .0)
+    front-length (store .rows * store .words) (zeros mostWords) (x .last .1 .1 .0) few (x .kept .1 .1 .0)
 
 report-answer-requires : tie.Need-report-answer-requires
 report-answer-requires c κs =
@@ -74,7 +74,7 @@ report-answer-requires c κs =
     let new = c .before .before .before .before .before .before .before .before .before .before .new in
     let store = new .result in
     let few = words-few (s .args .sheet .now) (s .args .asked) (s .pre) (new .ensures) in
-    rw (front-part (store .rows * store .words) (zeros 1832) (x .last .1 .1 .0) few (x .kept .1 .1 .0))
+    rw (front-part (store .rows * store .words) (zeros mostWords) (x .last .1 .1 .0) few (x .kept .1 .1 .0))
     (words-lent (s .args .sheet .now) (s .args .asked) (s .pre) (new .ensures) (x .last .1 .1 .0) (x .kept .1 .1 .0))
 
 returns : tie.Need-returns
@@ -86,7 +86,7 @@ returns c =
     let few = words-few (s .args .sheet .now) (s .args .asked) (s .pre) (new .ensures) in
     let words = x .last .1 .1 .0 in
     let marks = x .last .1 .1 .1 .0 in
-    let back = front-part (store .rows * store .words) (zeros 1832) words few (x .kept .1 .1 .0) in
+    let back = front-part (store .rows * store .words) (zeros mostWords) words few (x .kept .1 .1 .0) in
     let same = ap (λ (l : List ℕ). answerLines (x .result) (rowsOf store l marks)) back
     ∙ search-printed (s .args .sheet .now) (s .args .asked) (s .pre) (new .ensures) words marks (x .result) (x .ensures) in
     let all-marks = marks-lent (s .args .sheet .now) (s .args .asked) (s .pre) (new .ensures) marks (x .kept .1 .1 .1 .0) in

@@ -3,7 +3,7 @@ use mathlib.Core.Path.{_∙_}
 use native.Mathlib.Omega.{arith}
 use Rattle.loader.specs.Loading.{image}
 use Rattle.search.proofs.Accepted.{checked-as, allowed, allowed-demand}
-use Rattle.search.proofs.Leaving.{left-refused, lent-fit, code-inside, data-inside, still-fit, left-accepted, all-zero}
+use Rattle.search.proofs.Leaving.{left-refused, lent-fit, callable, zeroed, left-accepted}
 use Rattle.search.proofs.search_for_bugs.Statement.{statement}
 use Rattle.search.proofs.search_for_bugs.Tie as tie
 
@@ -40,9 +40,7 @@ search-rounds-requires c κs =
     let call-is = allowed (a .options) (a .log) p (a .words .now) (a .marks .now) checks passed in
     let made = c .before .before .before .before .before .before .before .before .before .new in
     let z = c .before .before .before .before .before .before .zero-rows in
-    let fit = still-fit call-is (made .ensures) (z .last .0) (z .last .1 .0) (z .kept .0) (z .kept .1 .0) in
-    let zero = all-zero (made .result .rows) _ (z .ensures) in
-    (fit, (zero, (call-is .ratio, (code-inside call-is (made .ensures), data-inside call-is (made .ensures)))))
+    (zeroed call-is (made .ensures) (z .last .0) (z .last .1 .0) (z .kept .0) (z .kept .1 .0) (z .ensures), callable call-is (made .ensures) (a .tape .now))
 
 enum-known-checked : tie.Need-enum-known-checked
 enum-known-checked c = search needs

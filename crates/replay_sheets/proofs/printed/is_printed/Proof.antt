@@ -1,13 +1,14 @@
 use Prim.Native.Nat.{_≤_, _-_}
 use borrow.Author.Needs.{needs}
+use Rattle.report.specs.Reports.{mostPrinted}
 use Rattle.replay_sheets.proofs.printed.is_printed.Statement.{statement}
 use Rattle.replay_sheets.proofs.printed.is_printed.Tie as tie
 
 abbrev Inv-loop : tie.InvT-loop
-Inv-loop numbers layout out i₀ i = i ≤ 2048
+Inv-loop numbers layout out i₀ i = i ≤ mostPrinted
 
 abbrev μ-loop : tie.MeasureT-loop
-μ-loop numbers layout out i₀ i = 2048 - i
+μ-loop numbers layout out i₀ i = mostPrinted - i
 
 loop-holds : tie.Need-loop-holds Inv-loop μ-loop
 loop-holds c = search needs

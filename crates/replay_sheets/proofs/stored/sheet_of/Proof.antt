@@ -2,14 +2,15 @@ use Prim.Native.Nat.{_≤_, _-_}
 use mathlib.Core.Path.{_≡_}
 use lib.ListN.{length}
 use borrow.Author.Needs.{needs}
+use Rattle.report.specs.Reports.{sheetBuffer}
 use Rattle.replay_sheets.proofs.stored.sheet_of.Statement.{statement}
 use Rattle.replay_sheets.proofs.stored.sheet_of.Tie as tie
 
 abbrev Inv-loop : tie.InvT-loop
-Inv-loop numbers stored bytes sheet₀ i₀ sheet i = (i ≤ 61441) × (61441 ≡ length sheet)
+Inv-loop numbers stored bytes sheet₀ i₀ sheet i = (i ≤ sheetBuffer) × (sheetBuffer ≡ length sheet)
 
 abbrev μ-loop : tie.MeasureT-loop
-μ-loop numbers stored bytes sheet₀ i₀ sheet i = 61441 - i
+μ-loop numbers stored bytes sheet₀ i₀ sheet i = sheetBuffer - i
 
 loop-holds : tie.Need-loop-holds Inv-loop μ-loop
 loop-holds c = search needs

@@ -4,7 +4,7 @@ use Prim.Native.Nat.{ℕ}
 use Rattle.report.proofs.Zeros.{zeros}
 use Rattle.search.specs.Entry.{searchEntry}
 use Rattle.store.proofs.Fronts.{front-length, front-part}
-use Rattle.report.proofs.Tapes.{tape-few, tape-start, tape-room, tape-read}
+use Rattle.report.proofs.Tapes.{mostTape, tape-few, tape-start, tape-room, tape-read}
 use native.Mathlib.Omega.{arith}
 use Rattle.sheet.specs.Sheets.{benchLimits, imageOf}
 use Rattle.sheet.proofs.Accepting.{accepted-within}
@@ -52,7 +52,7 @@ part-search-with-end c =
     let s = c .before .before .before .before .before .before .before .before in
     let x = c .before .before .read-words in
     let few = tape-few (s .args .sheet .now) (s .args .asked) (s .pre) in
-    front-length (s .args .asked .«tape_words») (zeros 7680) (x .last .1 .0) few (x .kept .1 .0)
+    front-length (s .args .asked .«tape_words») (zeros mostTape) (x .last .1 .0) few (x .kept .1 .0)
 
 search-with-requires : tie.Need-search-with-requires
 search-with-requires c κs =
@@ -71,7 +71,7 @@ returns c =
     let a = s .args in
     let x = c .before .before .before .before .before .before .before .before .before .before .read-words in
     let few = tape-few (a .sheet .now) (a .asked) (s .pre) in
-    let read = front-part (a .asked .«tape_words») (zeros 7680) (x .last .1 .0) few (x .kept .1 .0) ∙ tape-read (a .sheet .now) (a .asked) (s .pre) (x .ensures) in
+    let read = front-part (a .asked .«tape_words») (zeros mostTape) (x .last .1 .0) few (x .kept .1 .0) ∙ tape-read (a .sheet .now) (a .asked) (s .pre) (x .ensures) in
     let h = a .asked in
     c .before .before .before .before .search-with .ensures
     ∙ ap (λ (t : List ℕ). searchEntry (h .options) (h .log) (imageOf (a .sheet .now) h) t (a .words .now) (a .marks .now)) read

@@ -5,11 +5,11 @@ use Prim.Native.Nat.{_≤_}
 use lib.ListN.{length, replicate}
 use Rattle.store.specs.Store.{rowsOf}
 use Rattle.rounds.specs.Rounds.{runAll, runningFlag}
-use Rattle.turns.proofs.Parts.{given-back, front, front-within, front-is}
-use Rattle.turns.proofs.Running.{flags-many, ended, selects}
+use Rattle.round.proofs.Parts.{given-back, front, front-within, front-is}
+use Rattle.round.proofs.Running.{flags-many, ended, selects}
 use borrow.Author.Needs.{needs}
-use Rattle.turns.proofs.run_and_keep.Statement.{statement}
-use Rattle.turns.proofs.run_and_keep.Tie as tie
+use Rattle.round.proofs.run_and_keep.Statement.{statement}
+use Rattle.round.proofs.run_and_keep.Tie as tie
 
 abbrev entry : tie.After-run-all → tie.Start
 entry c = c .before .before .before .before .before .before .before

@@ -7,11 +7,11 @@ use borrow.Author.Tests.{not-true, not-false}
 use Rattle.store.specs.Store.{rowsOf}
 use Rattle.store.proofs.Rows.{fit-same}
 use Rattle.rarity.specs.Scores.{flaggedScores}
-use Rattle.turns.proofs.Parts.{given-back, front, front-within, front-is}
-use Rattle.turns.proofs.Keeping.{scores-many, unordered, holds, goes-on}
+use Rattle.round.proofs.Parts.{given-back, front, front-within, front-is}
+use Rattle.round.proofs.Keeping.{scores-many, unordered, holds, goes-on}
 use borrow.Author.Needs.{needs}
-use Rattle.turns.proofs.keep_rarest.Statement.{statement}
-use Rattle.turns.proofs.keep_rarest.Tie as tie
+use Rattle.round.proofs.keep_rarest.Statement.{statement}
+use Rattle.round.proofs.keep_rarest.Tie as tie
 
 abbrev entry : tie.After-score-rows → tie.Start
 entry c = c .before .before .before .before .before .before .before

@@ -15,15 +15,15 @@ use Rattle.rarity.specs.Scores.{flaggedScores, areOrdered}
 use Rattle.rarity.proofs.Among.{scores-length}
 use Rattle.answers.specs.declared.finding.Finding.the-variants.{ScoresUnordered}
 use Rattle.options.specs.declared.RaritySimulationOptions.{RaritySimulationOptions}
-use Rattle.rounds.specs.Holding.{Holding}
-use Rattle.rounds.specs.Rounds.{stored, chosenOf, goes, ends, selected}
+use Rattle.rounds.specs.Handed.{Holding}
+use Rattle.rounds.specs.Rounds.{stored, chosenOf, goesOn, ends, selected}
 use Rattle.rounds.specs.Selection.{rarest}
 use Rattle.rounds.proofs.Choosing.{rarest-as-many}
 use Rattle.filling.proofs.Fronts.{Front, front-taken, front-holds}
 use Rattle.selection.specs.Selecting.{candidates, lowerScore, numberOf, keptNumbers, keptRows}
 use Rattle.selection.proofs.Finding.{candidates-few}
 use Rattle.selection.proofs.States.{kept-states}
-use Rattle.turns.proofs.Ordered.{flagged-ordered}
+use Rattle.round.proofs.Ordered.{flagged-ordered}
 
 -- the numbers kept are not more than the scores
 numbers-few : (k : ℕ) (scores : List Float) (flags : List Bool) → length (keptNumbers k scores flags) ≤ length scores
@@ -74,9 +74,9 @@ module _ (o : RaritySimulationOptions) (s : Layout) (flags : List Bool) (words m
         holds = front-holds kept front-many in-front
 
         pub goes-on : areOrdered found ≡ true
-            → goes (record { kept = take kept (rowsOf s words′ marks′); used = used }) ≡ selected o rows used (taking flags rows)
+            → goesOn (record { kept = take kept (rowsOf s words′ marks′); used = used }) ≡ selected o rows used (taking flags rows)
         unfolding selected chosenOf
         goes-on e =
             rw (sym (flagged-ordered (o .mean) flags rows) ∙ sym test-same ∙ e)
-            (ap (λ (l : List Row). goes (record { kept = l; used = used }))
+            (ap (λ (l : List Row). goesOn (record { kept = l; used = used }))
             (front-taken kept front-many in-front ∙ kept-states (o .mean) (o .selection) flags rows))

@@ -1,22 +1,21 @@
 use native.Mathlib.Omega.{arith}
-use mathlib.Core.Path.{sym, _∙_}
-use Rattle.loader.specs.Loading.{segment, program}
 use Rattle.store.proofs.Rows.{fit-same}
-use Rattle.rounds.specs.Calls.{Call, call}
-use Rattle.rounds.specs.Holding.{startOf}
+use Rattle.rounds.specs.Calls.{Call}
+use Rattle.rounds.specs.Handed.{callOf, startOf}
 use Rattle.rounds.specs.Rounds.{Start}
-use Rattle.turns.proofs.Filling.{short-turn, full-turn, filled-limits}
+use Rattle.round.proofs.Filling.{short-round, full-round, filled-limits}
 use borrow.Author.Needs.{needs}
-use Rattle.turns.proofs.round.Statement.{statement}
-use Rattle.turns.proofs.round.Tie as tie
+use Rattle.round.proofs.round.Statement.{statement}
+use Rattle.round.proofs.round.Tie as tie
+
+abbrev entry : tie.After-create-missing-executors → tie.Start
+entry c = c .before .before .before .before .before .before .before .before
 
 abbrev asked : tie.Start → Call
-asked c =
-    let a = c .args in
-    call (a .options) (a .store) (program (segment (a .code-address) (a .code .now)) (segment (a .data-address) (a .«data» .now))) (a .tape .now)
+asked c = let a = c .args in callOf (a .call) (a .code .now) (a .«data» .now) (a .tape .now)
 
 abbrev start : tie.Start → Start
-start c = let a = c .args in startOf (a .store) (a .words .now) (a .marks .now) (a .kept) (a .used)
+start c = let a = c .args in startOf (a .call .store) (a .words .now) (a .marks .now) (a .start)
 
 create-missing-executors-requires : tie.Need-create-missing-executors-requires
 create-missing-executors-requires c κs = search needs
@@ -29,12 +28,12 @@ enum-known-filling c = search needs
 
 run-and-keep-requires : tie.Need-run-and-keep-requires
 run-and-keep-requires c κs =
-    let f = c .before .before .before .before .before .before .before .before .before in
-    let s = f .before .before .before .before .before .before .before .before in
+    let f = c .before .before .before .before .before .before .before .before .before .before .before in
+    let s = entry f in
     let e = f .create-missing-executors in (
       fit-same (e .last .0) (e .last .1 .0) (s .pre .0 .fit) (e .kept .0) (e .kept .1 .0),
-      filled-limits (asked s) (start s) (e .ensures .1) (sym (c .before .before .before .filling .given .1) ∙ e .ensures .0) (s .pre .0 .fit .sized)
-          (omega (arith, s .good)) (s .pre .1 .1 .1 .1),
+      filled-limits (asked s) (start s) (e .ensures .1) (e .ensures .0) (c .before .before .before .before .before .filling .given .1) (s .pre .0 .fit .sized)
+          (omega (arith, s .good)) (s .pre .1 .1),
     )
 
 same-length : tie.Need-same-length
@@ -46,9 +45,9 @@ same-length-2 c = search needs
 returns : tie.Need-returns
 returns c =
     let f = c .before .before .before .before .before .before in
-    let s = f .before .before .before .before .before .before .before .before in
+    let s = entry f in
     let e = f .create-missing-executors in
-    (short-turn (asked s) (start s) (e .ensures .1) (sym (c .enum-told .given .1) ∙ e .ensures .0), tt)
+    (short-round (asked s) (start s) (e .ensures .1) (e .ensures .0) (c .enum-told .given .1), tt)
 
 same-length-3 : tie.Need-same-length-3
 same-length-3 c = search needs
@@ -58,11 +57,11 @@ same-length-4 c = search needs
 
 returns-2 : tie.Need-returns-2
 returns-2 c =
-    let f = c .before .before .before .before .before .before .before .before .before .before .before .before .before .before in
-    let s = f .before .before .before .before .before .before .before .before in
+    let f = c .before .before .before .before .before .before .before .before .before .before .before .before .before .before .before .before in
+    let s = entry f in
     let e = f .create-missing-executors in
     let k = c .before .before .before .before .run-and-keep in (
-      full-turn (asked s) (start s) (e .ensures .1) (sym (c .before .before .before .before .before .before .before .before .filling .given .1) ∙ e .ensures .0)
+      full-round (asked s) (start s) (e .ensures .1) (e .ensures .0) (c .before .before .before .before .before .before .before .before .before .before .filling .given .1)
           (k .ensures .0),
       k .ensures .1,
     )

@@ -20,8 +20,8 @@ module _ (step : ℕ) where
   all-allow [] h = nil
   all-allow (r ∷ rows) h = cons (h 0 (omega arith)) (all-allow rows (λ i l. h (suc i) (omega arith)))
 
-  pub filled-allow : (c : Call) (s : Start) → Sized (c .layout) → step < 2 ^ 32 → LimitsAllow step (s .kept) → LimitsAllow step (filled c s)
+  pub filled-allow : (c : Call) (s : Start) → Sized (c .store) → step < 2 ^ 32 → LimitsAllow step (s .kept) → LimitsAllow step (filled c s)
   filled-allow c s sized small h =
-      let new = new-limit (c .image) (c .layout .words) (c .layout .marks) (sized .registers) (sized .slots) in
+      let new = new-limit (c .image) (c .store .words) (c .store .marks) (sized .registers) (sized .slots) in
       let all = filled-all c s (all-allow (s .kept) h) (omega (arith, new)) in
       λ r l. all-at (filled c s) r (row [] []) l all
