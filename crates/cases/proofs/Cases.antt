@@ -17,10 +17,10 @@ use Rattle.means.specs.Means.{sum, product, shares, exactMean}
 use Rattle.counting.specs.Cells.{baseOf}
 use Rattle.rounds.specs.Copies.{toCopy, nearest}
 use Rattle.rounds.specs.Rounds.{searchFrom, tapeShort, roundOf, ranOn, filled, runAll, firstBug, firstError, usedAfter}
-use Rattle.store.specs.Store.{cut, marksOf, wordsOf as storeWords}
+use Rattle.store.specs.Store.{cut, marksOf, wordsOf}
 use Rattle.checks.specs.Tests.{checkedBy}
 use Rattle.search.specs.Entry.{searchChecked, searchLeft}
-use Rattle.sheet.specs.Sheets.{parsed, orDefault, wordsOf as sheetWords}
+use Rattle.sheet.specs.Sheets.{parsed, orDefault, wordsIn}
 use Rattle.lines.specs.Lines.{digitsUpTo, answerLine, inputLines, lines}
 use Rattle.report.specs.Reports.{printedBy, searchPrinted, sheetLeft}
 use Rattle.cases.specs.Cases.{ProvedCases, lowBytes, inBytes}
@@ -31,7 +31,7 @@ unfolding operated decoded decodedOp assign valueAt divuRemu toCopy nearest mul 
     fetched halfAt jalr applied runOf runFor newExecutor programmed started loaded loadedFrom sd validAddress invalidAddress storeTo
     continued advanced settled stepped interpreted executed followed signed effectIn effectOf binaryOp system callOf idOf syscallId exit
     searchFrom tapeShort roundOf ranOn filled runAll firstBug firstError usedAfter
-    cut marksOf storeWords checkedBy searchChecked searchLeft parsed orDefault sheetWords
+    cut marksOf wordsOf checkedBy searchChecked searchLeft parsed orDefault wordsIn
     digitsUpTo answerLine inputLines lines printedBy searchPrinted sheetLeft lowBytes inBytes
 cases =
     record {

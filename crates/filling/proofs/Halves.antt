@@ -40,7 +40,7 @@ use lib.Ieee.Nearest.{div-same}
 use Rattle.checks.specs.Refusals.{isCopyRatio}
 use Rattle.means.specs.Means.{whole}
 use Rattle.rounds.specs.Copies.{nearest}
-use Rattle.rounds.proofs.Copies.{Within, product-within}
+use Rattle.rounds.proofs.Copies.{UpTo, product-within}
 
 -- ---- the sum of a small float and itself is exact
 
@@ -162,7 +162,7 @@ signed-nearest true m e z =
     let none : m * up e ≡ 0 = ap (λ (k : ℕ). k * up e) (z tt) ∙ zero-mul (up e) in
     div-eq-of-lt (omega (arith, down-pos e))
 
-twice : (p : Float) (n : ℕ) → n ≤ 4096 → T (fits binary64 p) → Within p n → Twice p
+twice : (p : Float) (n : ℕ) → n ≤ 4096 → T (fits binary64 p) → UpTo p n → Twice p
 twice nan n h f w = absurd w
 twice (inf s) n h f w = absurd w
 twice (fin s m e) n h f w =

@@ -10,8 +10,8 @@ use lib.ListN.{length, take, drop, replicate, length-drop}
 use lib.Seq.{length-take-le}
 use Rattle.rows.specs.Rows.{Row}
 use Rattle.store.specs.Store.{Fit, rowsOf}
-use Rattle.rounds.specs.declared.call.Call as code
-use Rattle.rounds.specs.declared.call.Start as code-start
+use Rattle.rounds.specs.declared.call.Call.{Call as CallByValue}
+use Rattle.rounds.specs.declared.call.Start.{Start as StartByValue}
 use Rattle.rounds.specs.Calls.{Call}
 use Rattle.rounds.specs.Copies.{copiesOf}
 use Rattle.rounds.specs.Rounds.{Start, stored, copies, tapeShort, parent, newRow, filled}
@@ -21,13 +21,13 @@ use Rattle.filling.specs.Filling.{filling, afterFilling, filledAs, withC
 use Rattle.filling.proofs.Fronts.{Front, kept-length, with-copies-length, front-taken, front-holds}
 
 -- what the code knows before it changes a row: how many copies to make, that there is room for them, and the tape words left
-pub record Planned (c : code.Call) (tape words marks : List ℕ) (x : code-start.Start) (count left : ℕ) : Type 0 where
+pub record Planned (c : CallByValue) (tape words marks : List ℕ) (x : StartByValue) (count left : ℕ) : Type 0 where
   pub holds : Holding (c .store) words marks (x .kept)
   pub counted : count ≡ copiesOf (c .store .rows) (x .kept) (c .options .«copy_init_ratio»)
   pub room : x .kept + count ≤ c .store .rows
   pub remaining : left ≡ length tape - x .used
 
-module _ {c : code.Call} {tape words marks : List ℕ} {x : code-start.Start} {count left : ℕ}
+module _ {c : CallByValue} {tape words marks : List ℕ} {x : StartByValue} {count left : ℕ}
     (bytes constants : List ℕ) (k : Planned c tape words marks x count left) where
   abbrev asked : Call
   asked = callOf c bytes constants tape

@@ -5,7 +5,7 @@ use Prim.Native.Nat.{ℕ, _*_, _-_, _/_, _≤_}
 use native.Mathlib.Omega.{arith}
 use lib.ListN.{length, take, drop, length-drop}
 use Rattle.rows.proofs.Parts.{to-end}
-use Rattle.sheet.specs.Sheets.{parsed, benchLimits, wordsOf, tapeOf}
+use Rattle.sheet.specs.Sheets.{parsed, benchLimits, wordsIn, tapeOf}
 use Rattle.sheet.specs.declared.parse.Sheet.{Sheet}
 use Rattle.sheet.specs.declared.parse.Parsed.the-variants.{Accepted}
 use Rattle.sheet.proofs.Accepting.{accepted-within, accepted-bytes}
@@ -30,9 +30,9 @@ module _ (s : List ℕ) (h : Sheet) (accepted : parsed benchLimits s ≡ Accepte
       (omega (arith, accepted-within benchLimits s h accepted .in-tape, length-drop (h .«tape_offset») s))
 
   pub tape-read : {tape : List ℕ}
-      → tape ≡ wordsOf (length (lent (h .«tape_words») mostTape)) (take (length s - h .«tape_offset») (drop (h .«tape_offset») s))
+      → tape ≡ wordsIn (length (lent (h .«tape_words») mostTape)) (take (length s - h .«tape_offset») (drop (h .«tape_offset») s))
       → tape ≡ tapeOf s h
   tape-read e =
       e
-      ∙ ap (λ (n : ℕ). wordsOf n (take (length s - h .«tape_offset») (drop (h .«tape_offset») s))) (lent-length (h .«tape_words») mostTape tape-few)
-      ∙ ap (λ (l : List ℕ). wordsOf (h .«tape_words») l) (to-end (h .«tape_offset») s)
+      ∙ ap (λ (n : ℕ). wordsIn n (take (length s - h .«tape_offset») (drop (h .«tape_offset») s))) (lent-length (h .«tape_words») mostTape tape-few)
+      ∙ ap (λ (l : List ℕ). wordsIn (h .«tape_words») l) (to-end (h .«tape_offset») s)

@@ -1,4 +1,4 @@
--- What the parts of the report say to each other: a text that was printed, the words of a store, and the inputs told from them.
+-- A stepping stone between contracts: a text that was printed, the words of a store, and the inputs told from them.
 use mathlib.Core.Path.{_≡_}
 use mathlib.Core.List.{List}
 use Prim.Native.Nat.{ℕ, _+_, _*_, _-_, _≤_}

@@ -2,7 +2,8 @@
 ghost use mathlib.Core.Path.{_≡_};
 ghost use lib.ListN.{length};
 ghost use Rattle.search.specs.Entry.{left, searchEntry};
-ghost use Rattle.sheet.specs.Sheets.{parsed, benchLimits, imageOf, tapeOf, Within};
+ghost use Rattle.sheet.specs.Sheets.{parsed, benchLimits, imageOf, tapeOf};
+ghost use Rattle.sheet.specs.Parts.{PartsWithin};
 ghost use Rattle.sheet.specs.declared.parse.Parsed.the-variants.{Accepted};
 use search::answer::SearchAnswer;
 use search::search_for_bugs;
@@ -21,7 +22,7 @@ fn search_with(
     words: &mut [u64],
     marks: &mut [u8],
 ) -> SearchAnswer
-    requires { ⌜ Within (length (now sheet)) asked ⌝ }
+    requires { ⌜ PartsWithin (length (now sheet)) asked ⌝ }
     ensures { λ r. ⌜ left (now (words .exit)) (now (marks .exit)) r
         ≡ searchEntry (asked .options) (asked .log) (imageOf (now (sheet .entry)) asked) (now (tape .entry)) (now (words .entry)) (now (marks .entry)) ⌝ }
 {

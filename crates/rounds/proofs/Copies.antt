@@ -17,10 +17,10 @@ use Rattle.checks.specs.Refusals.{isCopyRatio}
 use Rattle.rounds.specs.Copies.{nearest, toCopy}
 
 -- finite, at most n, and negative only as a zero
-abbrev pub Within : Float → ℕ → Type 0
-Within nan n = ⊥
-Within (inf s) n = ⊥
-Within (fin s m e) n = (m * up e ≤ n * down e) × (T s → m ≡ 0)
+abbrev pub UpTo : Float → ℕ → Type 0
+UpTo nan n = ⊥
+UpTo (inf s) n = ⊥
+UpTo (fin s m e) n = (m * up e ≤ n * down e) × (T s → m ≡ 0)
 
 -- ---- what is between 0 and n is within
 either : (a b : Bool) → T (a || b) → T a ⊎ T b
@@ -38,7 +38,7 @@ at-most a b t =
 no-factor : (m u : ℕ) → 0 < u → m * u ≡ 0 → m ≡ 0
 no-factor m u h e = ⊎-elim (λ (z : m ≡ 0). z) (λ (z : 0 < m). absurd (lt-irrefl 0 (rw e at (mul-pos z h)))) (eq-zero-or-pos m)
 
-between : (x low high : Float) (n : ℕ) → HasValue low false 0 1 → HasValue high false n 1 → T (le low x) → T (le x high) → Within x n
+between : (x low high : Float) (n : ℕ) → HasValue low false 0 1 → HasValue high false n 1 → T (le low x) → T (le x high) → UpTo x n
 unfolding le lt eq
 between x nan high n u v h k = absurd u
 between x (inf s) high n u v h k = absurd u
@@ -69,7 +69,7 @@ exact n h =
     (sym (mul-one (n * 2 ^ 1074)))
 
 -- a negative zero rounds to one
-zero-within : (x : Float) (a b n : ℕ) → 0 < b → a ≡ 0 → HasValue x true a b → Within x n
+zero-within : (x : Float) (a b n : ℕ) → 0 < b → a ≡ 0 → HasValue x true a b → UpTo x n
 zero-within nan a b n h z v = absurd v
 zero-within (inf s) a b n h z v = absurd v
 zero-within (fin s m e) a b n h z v =
@@ -77,7 +77,7 @@ zero-within (fin s m e) a b n h z v =
     (rw x (omega arith), λ t. no-factor m (up e) (up-pos e) x)
 
 -- ---- the product of n and what is within 1
-product : (x ratio : Float) (n : ℕ) → n ≤ 4096 → HasValue x false n 1 → Within ratio 1 → Within (mul binary64 x ratio) n
+product : (x ratio : Float) (n : ℕ) → n ≤ 4096 → HasValue x false n 1 → UpTo ratio 1 → UpTo (mul binary64 x ratio) n
 unfolding mul
 product nan ratio n h v w = absurd v
 product (inf s) ratio n h v w = absurd v
@@ -101,7 +101,7 @@ product (fin false l i) (fin true m e) n h v w =
     zero-within (round binary64 true a b) a b n some none
     (round-exact binary64 true a b 0 0 some (lit< tt) (lit< tt) (ap (λ (z : ℕ). z * 2 ^ 1074) none ∙ sym (zero-mul b)))
 
-pub product-within : (n : ℕ) (ratio : Float) → n ≤ 4096 → T (isCopyRatio ratio) → Within (mul binary64 (ofInt binary64 (pos n)) ratio) n
+pub product-within : (n : ℕ) (ratio : Float) → n ≤ 4096 → T (isCopyRatio ratio) → UpTo (mul binary64 (ofInt binary64 (pos n)) ratio) n
 unfolding ofInt
 product-within n ratio h r =
     let low = le (round binary64 false 0 1) ratio in
@@ -111,7 +111,7 @@ product-within n ratio h r =
     (and-l low high r) (and-r low high r))
 
 -- ---- rounded to a whole number it stays at most n
-pub nearest-most : (x : Float) (n : ℕ) → Within x n → nearest x ≤ n
+pub nearest-most : (x : Float) (n : ℕ) → UpTo x n → nearest x ≤ n
 unfolding nearest
 nearest-most nan n w = absurd w
 nearest-most (inf s) n w = absurd w

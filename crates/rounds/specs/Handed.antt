@@ -8,17 +8,17 @@ use Rattle.checks.specs.Refusals.{isCopyRatio}
 use Rattle.loader.specs.Loading.{Program, image, Fits}
 use Rattle.store.specs.Store.{Fit, memoryOf, rowsOf}
 use Rattle.store.specs.declared.layout.Layout.{Layout}
-use Rattle.rounds.specs.declared.call.Call as code
-use Rattle.rounds.specs.declared.call.Start as code-start
+use Rattle.rounds.specs.declared.call.Call.{Call as CallByValue}
+use Rattle.rounds.specs.declared.call.Start.{Start as StartByValue}
 use Rattle.rounds.specs.Calls.{Call, call}
 use Rattle.rounds.specs.Rounds.{Start, stored}
 
 -- the program of a call, from the bytes of its code and data
-abbrev pub programOf : code.Call → List ℕ → List ℕ → Program
+abbrev pub programOf : CallByValue → List ℕ → List ℕ → Program
 programOf c bytes constants = image (c .«code_address») bytes (c .«data_address») constants
 
 -- the call, with its tape
-abbrev pub callOf : code.Call → List ℕ → List ℕ → List ℕ → Call
+abbrev pub callOf : CallByValue → List ℕ → List ℕ → List ℕ → Call
 callOf c bytes constants tape = call (c .options) (c .store) (programOf c bytes constants) tape
 
 -- both segments of a program fit the memory of a store's rows
@@ -32,7 +32,7 @@ pub record Callable (c : Call) : Type 0 where
   pub loadable : Loadable (c .store) (c .image)
 
 -- what a round starts from, in a lent store
-abbrev pub startOf : Layout → List ℕ → List ℕ → code-start.Start → Start
+abbrev pub startOf : Layout → List ℕ → List ℕ → StartByValue → Start
 startOf s words marks x = record { kept = take (x .kept) (rowsOf s words marks); used = x .used }
 
 -- the kept rows come first, zero rows after them

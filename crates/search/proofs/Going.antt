@@ -10,14 +10,14 @@ use Rattle.store.specs.Store.{rowsOf}
 use Rattle.rounds.specs.Calls.{Call}
 use Rattle.rounds.specs.Demand.{All, nil}
 use Rattle.rounds.specs.Handed.{Holding, startOf}
-use Rattle.rounds.specs.declared.call.Start as code
+use Rattle.rounds.specs.declared.call.Start.{Start as StartByValue}
 use Rattle.rounds.specs.Rounds.{Start, beginning, stored, tapeShort, goesOn, ends, roundOf, Searched, searchedAfter, searchFrom}
 use Rattle.answers.specs.declared.finding.Finding.{Finding}
 use Rattle.answers.specs.declared.finding.Finding.the-variants.{Nothing, TapeShort}
 use Rattle.running.specs.Running.{LimitsAllow}
 use Rattle.round.specs.After.{roundWithFilling, afterIn}
 use Rattle.round.specs.declared.AfterRound.the-variants.{GoesOn, Ends}
-use Rattle.search.specs.Entry.{searchedAs}
+use Rattle.search.specs.Searching.{searchedAs}
 use Rattle.search.specs.declared.answer.SearchAnswer.the-variants as answer
 use Rattle.search.proofs.Limits.{Low, round-low, limits-allow}
 
@@ -44,7 +44,7 @@ filled-goes c s next = by (tapeShort c s)
     by false e = e
 
 -- a search of n rounds before its round i, in a lent store
-pub record Going (c : Call) (n i : ℕ) (words marks : List ℕ) (start : code.Start) : Type 0 where
+pub record Going (c : Call) (n i : ℕ) (words marks : List ℕ) (start : StartByValue) : Type 0 where
   pub holding : Holding (c .store) words marks (start .kept)
   pub left : searchFrom (n - i) c (startOf (c .store) words marks start) ≡ searchFrom n c beginning
   pub low : All (Low (i * c .options .«step_size»)) (startOf (c .store) words marks start .kept)
@@ -58,7 +58,7 @@ begins c n words marks holding =
       low = nil;
     }
 
-module _ {c : Call} {n i : ℕ} {words marks : List ℕ} {start : code.Start} (going : Going c n i words marks start) where
+module _ {c : Call} {n i : ℕ} {words marks : List ℕ} {start : StartByValue} (going : Going c n i words marks start) where
   module _ (before : i < n) where
     pub going-limits : n < 2 ^ 32 → c .options .«step_size» < 2 ^ 32 → LimitsAllow (c .options .«step_size») (startOf (c .store) words marks start .kept)
     going-limits few small = limits-allow n i (c .options .«step_size») _ before few small (going .low)
@@ -68,7 +68,7 @@ module _ {c : Call} {n i : ℕ} {words marks : List ℕ} {start : code.Start} (g
         let more : n - i ≡ suc (n - (i + 1)) = omega arith in
         sym (search-round (n - (i + 1)) c (startOf (c .store) words marks start)) ∙ rw more at (going .left)
 
-    pub goes-on : (words′ marks′ : List ℕ) (start′ : code.Start)
+    pub goes-on : (words′ marks′ : List ℕ) (start′ : StartByValue)
         → afterIn (c .store) words′ marks′ (GoesOn start′) ≡ roundWithFilling c (startOf (c .store) words marks start)
         → Holding (c .store) words′ marks′ (start′ .kept) → Going c n (i + 1) words′ marks′ start′
     goes-on words′ marks′ start′ e holding =

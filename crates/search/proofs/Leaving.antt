@@ -14,7 +14,8 @@ use Rattle.rounds.specs.Calls.{layoutOf, call}
 use Rattle.rounds.specs.Handed.{Callable, Holding}
 use Rattle.rounds.specs.Rounds.{searched}
 use Rattle.options.specs.declared.RaritySimulationOptions.{RaritySimulationOptions}
-use Rattle.search.specs.Entry.{searchChecked, searchedAs, left, searchLeft, searchEntry}
+use Rattle.search.specs.Searching.{searchedAs}
+use Rattle.search.specs.Entry.{searchChecked, left, searchLeft, searchEntry}
 use Rattle.search.specs.declared.answer.SearchAnswer.{SearchAnswer}
 use Rattle.search.specs.declared.answer.SearchAnswer.the-variants as answer
 use Rattle.search.proofs.Accepted.{Allowed}

@@ -12,7 +12,6 @@ use Rattle.checks.specs.declared.refusal.Refusal.the-variants.{MemorySize, Amou
 use Rattle.checks.specs.declared.refusal.Checked.{Checked}
 use Rattle.checks.specs.declared.refusal.Checked.the-variants as checked
 use Rattle.loader.specs.Loading.{Program}
-use Rattle.rows.specs.Rows.{Row}
 use Rattle.store.specs.Store.{wordsOf, marksOf}
 use Rattle.rounds.specs.Calls.{layoutOf, call}
 use Rattle.rounds.specs.Demand.{Demand}
@@ -51,10 +50,6 @@ left words marks a = record { words = words; marks = marks; answer = a }
 -- a search leaves its rows
 abbrev pub leftBy : Searched → Left
 leftBy x = left (wordsOf (x .rows)) (marksOf (x .rows)) (answer.Searched (x .finding) (x .used))
-
--- an answer in a store of these rows says what a search comes to
-abbrev pub searchedAs : SearchAnswer → List Row → Searched → Type 0
-searchedAs a rows x = (a ≡ answer.Searched (x .finding) (x .used)) × (rows ≡ x .rows)
 
 -- a refused call leaves everything as found; an accepted one zeroes all rows and runs the rounds
 unfoldable pub searchLeft : Checked → RaritySimulationOptions → ℕ → Program → List ℕ → List ℕ → List ℕ → Left

@@ -5,7 +5,8 @@ ghost use Rattle.loader.specs.Loading.{image};
 ghost use Rattle.store.specs.Store.{rowsOf};
 ghost use Rattle.rounds.specs.Handed.{callOf, Callable, Holding};
 ghost use Rattle.rounds.specs.Rounds.{searched};
-ghost use Rattle.search.specs.Entry.{optionTests, callTests, searchedAs, left, searchEntry, Demanded};
+ghost use Rattle.search.specs.Searching.{searchedAs};
+ghost use Rattle.search.specs.Entry.{optionTests, callTests, left, searchEntry, Demanded};
 
 pub mod answer;
 

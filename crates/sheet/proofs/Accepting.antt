@@ -7,7 +7,8 @@ use native.Mathlib.Omega.{arith}
 use lib.Dec.{ltb}
 use lib.ListN.{length}
 use borrow.Author.Tests.{ltb-false}
-use Rattle.sheet.specs.Sheets.{fieldsOf, withDefaults, sheetOf, aboveLimit, partPast, fieldsParsed, parsed, Within}
+use Rattle.sheet.specs.Sheets.{fieldsOf, withDefaults, sheetOf, aboveLimit, partPast, fieldsParsed, parsed}
+use Rattle.sheet.specs.Parts.{PartsWithin}
 use Rattle.sheet.specs.declared.fields.Fields.{Fields}
 use Rattle.sheet.specs.declared.limits.Limits.{Limits}
 use Rattle.sheet.specs.declared.parse.Sheet.{Sheet}
@@ -47,7 +48,7 @@ fitting l f h =
     }
 
 -- 52 does not
-in-bytes : (n : ℕ) (f : Fields) → partPast n f ≡ false → Within n (sheetOf f)
+in-bytes : (n : ℕ) (f : Fields) → partPast n f ≡ false → PartsWithin n (sheetOf f)
 in-bytes n f h =
     let a = neither (ltb n (f .«code_offset» + f .«code_length»)) _ h in
     let b = neither (ltb n (f .«data_offset» + f .«data_length»)) _ (a .1) in
@@ -80,7 +81,7 @@ module _ (l : Limits) (s : List ℕ) (h : Sheet) (accepted : parsed l s ≡ Acce
   pub accepted-passed : Passed l (length s) (withDefaults (fieldsOf s)) h
   accepted-passed = fields-passed _ _ _ h (length-passed .1)
 
-  pub accepted-within : Within (length s) h
+  pub accepted-within : PartsWithin (length s) h
   accepted-within = rw (← accepted-passed .is) (in-bytes (length s) (withDefaults (fieldsOf s)) (accepted-passed .parts))
 
   pub accepted-fitting : Fitting l h

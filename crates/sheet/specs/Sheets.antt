@@ -1,7 +1,7 @@
 -- The sheet ("The sheet" in document 01): sixteen little-endian fields, defaults, and what a sequence of bytes is as a sheet.
 use mathlib.Core.Bool.{Bool, cond, _||_}
 use mathlib.Core.List.{List, [], _∷_, _++_}
-use Prim.Native.Nat.{ℕ, zero, suc, _+_, _-_, _*_, _^_, _≤_}
+use Prim.Native.Nat.{ℕ, zero, suc, _+_, _-_, _*_, _^_}
 use lib.Dec.{eqb, ltb}
 use lib.Ieee.{binary64, ofBits}
 use lib.ListN.{length, take, drop}
@@ -134,18 +134,12 @@ abbrev pub partOf : List ℕ → Part → List ℕ
 partOf s p = take (p .length) (drop (p .offset) s)
 
 -- the first n words of some bytes, little-endian
-unfoldable pub wordsOf : ℕ → List ℕ → List ℕ
-wordsOf zero bytes = []
-wordsOf (suc n) bytes = wordsOf n bytes ++ (wordAt bytes (8 * n) ∷ [])
+unfoldable pub wordsIn : ℕ → List ℕ → List ℕ
+wordsIn zero bytes = []
+wordsIn (suc n) bytes = wordsIn n bytes ++ (wordAt bytes (8 * n) ∷ [])
 
 abbrev pub imageOf : List ℕ → Sheet → Program
 imageOf s h = program (segment (h .code .address) (partOf s (h .code))) (segment (h .«data» .address) (partOf s (h .«data»)))
 
 abbrev pub tapeOf : List ℕ → Sheet → List ℕ
-tapeOf s h = wordsOf (h .«tape_words») (drop (h .«tape_offset») s)
-
--- the parts of an accepted sheet lie within it
-pub record Within (n : ℕ) (h : Sheet) : Type 0 where
-  pub in-code : h .code .offset + h .code .length ≤ n
-  pub in-data : h .«data» .offset + h .«data» .length ≤ n
-  pub in-tape : h .«tape_offset» + 8 * h .«tape_words» ≤ n
+tapeOf s h = wordsIn (h .«tape_words») (drop (h .«tape_offset») s)

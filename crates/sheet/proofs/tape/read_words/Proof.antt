@@ -5,20 +5,20 @@ use borrow.Author.Needs.{needs}
 use denote.Ref.{now}
 use lib.ListN.{length, take}
 use lib.Seq.{take-all}
-use Rattle.sheet.specs.Sheets.{wordsOf}
+use Rattle.sheet.specs.Sheets.{wordsIn}
 use Rattle.sheet.proofs.Words.{words-on}
 use Rattle.sheet.proofs.tape.read_words.Statement.{statement}
 use Rattle.sheet.proofs.tape.read_words.Tie as tie
 
 -- the words so far are read
 abbrev Inv-loop : tie.InvT-loop
-Inv-loop bytes tape₀ i₀ tape i = (take i tape ≡ wordsOf i bytes) × (i ≤ length tape₀) × (length tape ≡ length tape₀)
+Inv-loop bytes tape₀ i₀ tape i = (take i tape ≡ wordsIn i bytes) × (i ≤ length tape₀) × (length tape ≡ length tape₀)
 
 abbrev μ-loop : tie.MeasureT-loop
 μ-loop bytes tape₀ i₀ tape i = length tape₀ - i
 
 loop-holds : tie.Need-loop-holds Inv-loop μ-loop
-unfolding wordsOf
+unfolding wordsIn
 loop-holds c = (refl, omega arith, refl)
 
 mul-word-at : tie.Need-mul-word-at Inv-loop μ-loop
@@ -50,7 +50,7 @@ same-length c = search needs
 returns : tie.Need-returns Inv-loop μ-loop
 returns c =
     let l = c .before .loop in
-    sym (take-all (l .i) (l .tape) (omega arith)) ∙ l .inv .0 ∙ ap (λ (k : ℕ). wordsOf k (now (c .before .before .before .before .args .bytes))) (omega arith)
+    sym (take-all (l .i) (l .tape) (omega arith)) ∙ l .inv .0 ∙ ap (λ (k : ℕ). wordsIn k (now (c .before .before .before .before .args .bytes))) (omega arith)
 
 pub read-words-spec : {M : Type 1} → statement M
 read-words-spec =
