@@ -10,7 +10,10 @@ enum-known-effect : tie.Need-enum-known-effect
 enum-known-effect c = search needs
 
 write-slot-requires : tie.Need-write-slot-requires
-write-slot-requires c κs = let h = rw (c .before .before .before .effect .given .1) at (c .before .before .before .before .before .before .before .pre .1) in (c .before .before .before .before .before .before .before .pre .0, omega (arith, c .before .before .before .before .before .before .before .pre .0 .registers))
+write-slot-requires c κs =
+    let s = c .before .before .before .before .before .before .before in
+    let h = rw (c .before .before .before .effect .given .1) at (s .pre .1) in
+    (s .pre .0, omega (arith, s .pre .0 .registers))
 
 slice-write-words : tie.Need-slice-write-words
 slice-write-words c = search needs
@@ -19,10 +22,16 @@ enum-known-effect-2 : tie.Need-enum-known-effect-2
 enum-known-effect-2 c = search needs
 
 read-memory-requires : tie.Need-read-memory-requires
-read-memory-requires c κs = let h = rw (c .before .before .before .effect2 .given .1) at (c .before .before .before .before .before .before .before .pre .1) in (c .before .before .before .before .before .before .before .pre .0, omega (arith, c .before .before .before .before .before .before .before .pre .0 .registers))
+read-memory-requires c κs =
+    let s = c .before .before .before .before .before .before .before in
+    let h = rw (c .before .before .before .effect2 .given .1) at (s .pre .1) in
+    (s .pre .0, omega (arith, s .pre .0 .registers))
 
 write-slot-requires-2 : tie.Need-write-slot-requires-2
-write-slot-requires-2 c κs = let h = rw (c .before .before .before .before .before .before .effect2 .given .1) at (c .before .before .before .before .before .before .before .before .before .before .pre .1) in (c .before .before .before .before .before .before .before .before .before .before .pre .0, omega (arith, c .before .before .before .before .before .before .before .before .before .before .pre .0 .registers))
+write-slot-requires-2 c κs =
+    let s = c .before .before .before .before .before .before .before .before .before .before in
+    let h = rw (c .before .before .before .before .before .before .effect2 .given .1) at (s .pre .1) in
+    (s .pre .0, omega (arith, s .pre .0 .registers))
 
 slice-write-words-2 : tie.Need-slice-write-words-2
 slice-write-words-2 c = search needs
@@ -31,7 +40,10 @@ enum-known-effect-3 : tie.Need-enum-known-effect-3
 enum-known-effect-3 c = search needs
 
 write-memory-requires : tie.Need-write-memory-requires
-write-memory-requires c κs = let h = rw (c .before .before .before .effect3 .given .1) at (c .before .before .before .before .before .before .before .pre .1) in (c .before .before .before .before .before .before .before .pre .0, omega (arith, c .before .before .before .before .before .before .before .pre .0 .registers))
+write-memory-requires c κs =
+    let s = c .before .before .before .before .before .before .before in
+    let h = rw (c .before .before .before .effect3 .given .1) at (s .pre .1) in
+    (s .pre .0, omega (arith, s .pre .0 .registers))
 
 slice-write-words-3 : tie.Need-slice-write-words-3
 slice-write-words-3 c = search needs

@@ -1,4 +1,4 @@
-use mathlib.Core.Path.{sym, ap, _∙_}
+use mathlib.Core.Path.{ap}
 use Prim.Native.Nat.{_+_, _*_, _/_, _%_, _^_, _<_}
 use native.Mathlib.Omega.{arith}
 use lib.Pow.{pow-pos}
@@ -66,12 +66,12 @@ record-requires : tie.Need-record-requires
 record-requires c κs =
     let x = drawn (unit c) in
     let e = entry (word (draw x)) in
-    (e .pre .0, (e .pre .1 .0, drawn-room _ _ _ _ (sym (draw x .draw .ensures) ∙ x .x .given .1) .0))
+    (e .pre .0, (e .pre .1 .0, drawn-room _ _ _ _ (draw x .draw .ensures) (x .x .given .1) .0))
 
 add-t29 : tie.Need-add-t29
 add-t29 c =
     let x = drawn (c .before .before .before .before .before .before .before) in
-    omega (arith, drawn-room _ _ _ _ (sym (draw x .draw .ensures) ∙ x .x .given .1) .1)
+    omega (arith, drawn-room _ _ _ _ (draw x .draw .ensures) (x .x .given .1) .1)
 
 enum-known-error : tie.Need-enum-known-error
 enum-known-error c = search needs

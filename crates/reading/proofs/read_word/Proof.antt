@@ -1,4 +1,4 @@
-use mathlib.Core.Path.{sym, ap, _∙_}
+use mathlib.Core.Path.{ap}
 use native.Mathlib.Omega.{arith}
 use Rattle.reading.specs.Reading.{fullWord, running}
 use Rattle.reading.proofs.Draws.{drawn-room}
@@ -20,12 +20,12 @@ record-requires : tie.Need-record-requires
 record-requires c κs =
     let x = c .before .before .before in
     let e = draw x .before .before .before .before .before .before in
-    (e .pre .0, (e .pre .1, drawn-room _ _ _ _ (sym (draw x .draw .ensures) ∙ x .x .given .1) .0))
+    (e .pre .0, (e .pre .1, drawn-room _ _ _ _ (draw x .draw .ensures) (x .x .given .1) .0))
 
 add-t20 : tie.Need-add-t20
 add-t20 c =
     let x = c .before .before .before .before .before .before .before .before in
-    omega (arith, drawn-room _ _ _ _ (sym (draw x .draw .ensures) ∙ x .x .given .1) .1)
+    omega (arith, drawn-room _ _ _ _ (draw x .draw .ensures) (x .x .given .1) .1)
 
 enum-known-error : tie.Need-enum-known-error
 enum-known-error c = search needs
