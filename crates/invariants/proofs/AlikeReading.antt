@@ -43,7 +43,7 @@ module _ (w : ℕ) (R : Row → Row → Type 0) (alike : Alike w R) where
 
   full-word-alike : (d : Drawn) (tape : List ℕ) (m used : ℕ) (r s : Row) → m < w → drawn tape used r ≡ d → R r s → Both R (fullWord d m used r) (fullWord d m used s)
   unfolding fullWord
-  full-word-alike (Word x) tape m used r s k e h = record { rows = recorded-alike m x x k (drawn-room tape used r x e .0) h; moved = refl }
+  full-word-alike (Word x) tape m used r s k e h = record { rows = recorded-alike m x x k (drawn-room tape used r x refl e .0) h; moved = refl }
   full-word-alike (Refused o) tape m used r s k e h = record { rows = h; moved = refl }
 
   full-words-alike : (n : ℕ) (tape : List ℕ) (m used : ℕ) (r s : Row) → m + n ≤ w → R r s → Both R (fullWords n tape m used r) (fullWords n tape m used s)
@@ -56,7 +56,7 @@ module _ (w : ℕ) (R : Row → Row → Type 0) (alike : Alike w R) where
 
   tail-of-alike : (d : Drawn) (tape : List ℕ) (c unit m used : ℕ) (r s : Row) → m < w → drawn tape used r ≡ d → R r s → Both R (tailOf d c unit m used r) (tailOf d c unit m used s)
   unfolding tailOf
-  tail-of-alike (Word x) tape c unit m used r s k e h = record { rows = recorded-alike m _ _ k (drawn-room tape used r x e .0) h; moved = refl }
+  tail-of-alike (Word x) tape c unit m used r s k e h = record { rows = recorded-alike m _ _ k (drawn-room tape used r x refl e .0) h; moved = refl }
   tail-of-alike (Refused o) tape c unit m used r s k e h = record { rows = h; moved = refl }
 
   tail-alike : (v : Value) (tape : List ℕ) (unit m used : ℕ) (r s : Row) → m < w → R r s → Both R (tail v tape unit m used r) (tail v tape unit m used s)
