@@ -5,24 +5,25 @@ use Prim.Native.Nat.{ℕ, _+_, _*_, _/_, _%_, _^_, _<_, _≤_}
 use native.Mathlib.Omega.{arith}
 use borrow.Author.Tests.{eqb-true, leb-true, ne-eqb}
 use lib.Dec.{eqb, leb}
+use Rattle.rows.specs.Limits.{mostRows, mostMemory, mostLog, memoryUnit, mostMemoryBytes}
 use Rattle.rows.specs.Rows.{Row, rowWords, rowMarks, limitOf}
 use Rattle.rows.specs.Valid.{soundRow, validRow}
 use Rattle.checks.specs.Refusals.{isMemorySize, isAmountOfStates, isLogSize, areLengths, isWhole, isInside}
 
-pub memory-size : (bytes : ℕ) → isMemorySize bytes ≡ true → (bytes % 1024 ≡ 0) × (1024 ≤ bytes) × (bytes ≤ 1048576)
+pub memory-size : (bytes : ℕ) → isMemorySize bytes ≡ true → (bytes % memoryUnit ≡ 0) × (memoryUnit ≤ bytes) × (bytes ≤ mostMemoryBytes)
 memory-size bytes h =
-    let whole = eqb (bytes % 1024) 0 in
-    let enough = leb 1024 bytes in
-    let outer = and-eq-true-iff (whole && enough) (leb bytes 1048576) .0 h in
+    let whole = eqb (bytes % memoryUnit) 0 in
+    let enough = leb memoryUnit bytes in
+    let outer = and-eq-true-iff (whole && enough) (leb bytes mostMemoryBytes) .0 h in
     let inner = and-eq-true-iff whole enough .0 (outer .0) in
     (eqb-true _ _ (inner .0), leb-true _ _ (inner .1), leb-true _ _ (outer .1))
 
-pub amount-of-states : (states : ℕ) → isAmountOfStates states ≡ true → (1 ≤ states) × (states ≤ 4096)
+pub amount-of-states : (states : ℕ) → isAmountOfStates states ≡ true → (1 ≤ states) × (states ≤ mostRows)
 amount-of-states states h =
-    let both = and-eq-true-iff (leb 1 states) (leb states 4096) .0 h in
+    let both = and-eq-true-iff (leb 1 states) (leb states mostRows) .0 h in
     (leb-true _ _ (both .0), leb-true _ _ (both .1))
 
-pub log-size : (l : ℕ) → isLogSize l ≡ true → l ≤ 65536
+pub log-size : (l : ℕ) → isLogSize l ≡ true → l ≤ mostLog
 log-size l h = leb-true _ _ h
 
 pub lengths : (rows w l words marks : ℕ) → areLengths rows w l words marks ≡ true → (words ≡ rows * rowWords w l) × (marks ≡ rows * rowMarks w)
@@ -33,7 +34,7 @@ lengths rows w l words marks h =
 -- what the tests of numbers 1, 2 and 5 say of a store of so many rows, and of its two lengths
 pub store-lengths : (memory rows l words marks : ℕ) → isMemorySize memory ≡ true → isAmountOfStates rows ≡ true
     → areLengths rows (memory / 8) l words marks ≡ true
-    → (rows ≤ 4096) × (0 < memory / 8) × (memory / 8 ≤ 131072) × (words ≡ rows * rowWords (memory / 8) l) × (marks ≡ rows * rowMarks (memory / 8))
+    → (rows ≤ mostRows) × (0 < memory / 8) × (memory / 8 ≤ mostMemory) × (words ≡ rows * rowWords (memory / 8) l) × (marks ≡ rows * rowMarks (memory / 8))
 store-lengths memory rows l words marks m r e =
     let b = memory-size memory m in
     let both = lengths rows (memory / 8) l words marks e in

@@ -37,6 +37,7 @@ use lib.Ieee.{Float, nan, inf, fin, binary64, up, down, fits, round, add, sum, m
 use lib.Ieee.Exact.{HasValue, round-exact}
 use lib.Ieee.Fits.{down-pos, and-l, and-r, mul-fits}
 use lib.Ieee.Nearest.{div-same}
+use Rattle.rows.specs.Limits.{mostRows}
 use Rattle.checks.specs.Refusals.{isCopyRatio}
 use Rattle.means.specs.Means.{whole}
 use Rattle.rounds.specs.Copies.{nearest}
@@ -162,7 +163,7 @@ signed-nearest true m e z =
     let none : m * up e ≡ 0 = ap (λ (k : ℕ). k * up e) (z tt) ∙ zero-mul (up e) in
     div-eq-of-lt (omega (arith, down-pos e))
 
-twice : (p : Float) (n : ℕ) → n ≤ 4096 → T (fits binary64 p) → UpTo p n → Twice p
+twice : (p : Float) (n : ℕ) → n ≤ mostRows → T (fits binary64 p) → UpTo p n → Twice p
 twice nan n h f w = absurd w
 twice (inf s) n h f w = absurd w
 twice (fin s m e) n h f w =
@@ -184,5 +185,5 @@ twice (fin s m e) n h f w =
       half = ap (λ (z : ℕ). (z + 1) / 2) c ∙ halves x d dp ∙ signed-nearest s m e (w .1);
     }
 
-pub twice-product : (n : ℕ) (r : Float) → n ≤ 4096 → T (isCopyRatio r) → Twice (mul binary64 (whole n) r)
+pub twice-product : (n : ℕ) (r : Float) → n ≤ mostRows → T (isCopyRatio r) → Twice (mul binary64 (whole n) r)
 twice-product n r h t = twice (mul binary64 (whole n) r) n h (mul-fits binary64 (whole n) r) (product-within n r h t)

@@ -13,6 +13,7 @@ use lib.Ieee.Exact.{HasValue, round-exact}
 use lib.Ieee.Fits.{up-pos, down-pos, and-l, and-r}
 use lib.Ieee.Order.{round-mono}
 use lib.IntN.{pos}
+use Rattle.rows.specs.Limits.{mostRows}
 use Rattle.checks.specs.Refusals.{isCopyRatio}
 use Rattle.rounds.specs.Copies.{nearest, toCopy}
 
@@ -62,7 +63,7 @@ between (fin false m e) (fin false l i) (fin false o j) n u v h k =
     (le-of-mul-le-mul-right (subst (λ (z : ℕ). a ≤ z) high order) (down-pos j), λ t. absurd t)
 
 -- a whole number to 4,096 is an f64
-exact : (n : ℕ) → n ≤ 4096 → HasValue (round binary64 false n 1) false n 1
+exact : (n : ℕ) → n ≤ mostRows → HasValue (round binary64 false n 1) false n 1
 exact n h =
     round-exact binary64 false n 1 n 1074 (lit< tt) (omega arith)
     (lt-of-le-of-lt (mul-le-mul-right (2 ^ 1074) h) (lit< {m = 4096 * 2 ^ 1074} tt))
@@ -77,7 +78,7 @@ zero-within (fin s m e) a b n h z v =
     (rw x (omega arith), λ t. no-factor m (up e) (up-pos e) x)
 
 -- ---- the product of n and what is within 1
-product : (x ratio : Float) (n : ℕ) → n ≤ 4096 → HasValue x false n 1 → UpTo ratio 1 → UpTo (mul binary64 x ratio) n
+product : (x ratio : Float) (n : ℕ) → n ≤ mostRows → HasValue x false n 1 → UpTo ratio 1 → UpTo (mul binary64 x ratio) n
 unfolding mul
 product nan ratio n h v w = absurd v
 product (inf s) ratio n h v w = absurd v
@@ -101,7 +102,7 @@ product (fin false l i) (fin true m e) n h v w =
     zero-within (round binary64 true a b) a b n some none
     (round-exact binary64 true a b 0 0 some (lit< tt) (lit< tt) (ap (λ (z : ℕ). z * 2 ^ 1074) none ∙ sym (zero-mul b)))
 
-pub product-within : (n : ℕ) (ratio : Float) → n ≤ 4096 → T (isCopyRatio ratio) → UpTo (mul binary64 (ofInt binary64 (pos n)) ratio) n
+pub product-within : (n : ℕ) (ratio : Float) → n ≤ mostRows → T (isCopyRatio ratio) → UpTo (mul binary64 (ofInt binary64 (pos n)) ratio) n
 unfolding ofInt
 product-within n ratio h r =
     let low = le (round binary64 false 0 1) ratio in
@@ -122,6 +123,6 @@ nearest-most (fin false m e) n w =
     (div-lt-iff-lt-mul (mul-pos (lit< {m = 0} {n = 2} tt) (down-pos e))
     .1 (omega (arith, w .0, down-pos e, mul-comm n d, suc-mul n (2 * d), mul-left-comm n 2 d)))
 
-pub copy-most : (n : ℕ) (ratio : Float) → n ≤ 4096 → T (isCopyRatio ratio) → toCopy n ratio ≤ n
+pub copy-most : (n : ℕ) (ratio : Float) → n ≤ mostRows → T (isCopyRatio ratio) → toCopy n ratio ≤ n
 unfolding toCopy
 copy-most n ratio h r = nearest-most _ n (product-within n ratio h r)

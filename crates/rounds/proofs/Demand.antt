@@ -6,8 +6,9 @@ use Prim.Native.Nat.{ℕ, min, _+_, _≤_}
 use native.Mathlib.Omega.{arith}
 use lib.Dec.{T}
 use lib.ListN.{length}
+use Rattle.rows.specs.Limits.{mostRows}
 use Rattle.checks.specs.Refusals.{isCopyRatio}
-use Rattle.store.specs.Store.{Sized}
+use Rattle.store.specs.Store.{mostMarks, Sized}
 use Rattle.rounds.specs.Calls.{Call}
 use Rattle.rounds.specs.Demand.{All, nil, Fair, FairRound, Demand}
 use Rattle.rounds.specs.Rounds.{Start, beginning, copies, tapeShort, filled, usedAfter, rowAfter, stateOf, chosenOf, goesOn, ranOn, roundOf}
@@ -43,10 +44,10 @@ module _ (c : Call) (sized : Sized (c .store)) (ratio : T (isCopyRatio (c .optio
     running-few : length (running c s) ≤ c .store .rows
     running-few = let n = still-running-length (roundOf c s .runs) in omega (arith, runs-length)
 
-    few : length (running c s) ≤ 4096
+    few : length (running c s) ≤ mostRows
     few = omega (arith, running-few, sized .few)
 
-    short : All (λ r. length (r .marks) ≤ 131104) (running c s)
+    short : All (λ r. length (r .marks) ≤ mostMarks) (running c s)
     short = all-with (λ r h. omega (arith, h .marks, sized .memory)) running-proper
 
     module _ (next : Start) (e : roundOf c s .after ≡ goesOn next) where

@@ -7,6 +7,8 @@ use native.Mathlib.Omega.{arith}
 use lib.Dec.{T}
 use lib.Ieee.Positive.{positive}
 use lib.ListN.{length, length-map}
+use Rattle.store.specs.Store.{mostMarks}
+use Rattle.rows.specs.Limits.{mostRows}
 use Rattle.rows.specs.Rows.{Row}
 use Rattle.counting.specs.Counters.{countersOf}
 use Rattle.means.specs.declared.MeanType.{MeanType}
@@ -64,14 +66,14 @@ module _ (c : Call) (rows : List Row) where
       ∙ ap (min _) (length-map rows (rankedAmong (c .options .mean) rows))
 
 -- few rows of few marks: their scores are above zero and a ruler for the exact means
-module _ (c : Call) (rows : List Row) (few : length rows ≤ 4096) (short : All (λ r. length (r .marks) ≤ 131104) rows) where
+module _ (c : Call) (rows : List Row) (few : length rows ≤ mostRows) (short : All (λ r. length (r .marks) ≤ mostMarks) rows) where
   abbrev m : MeanType
   m = c .options .mean
 
   -- one of the rows, with its score
   record Scored (x : Ranked) : Type 0 where
     among : List·Memᴰ (x .state) rows
-    small : length (x .state .marks) ≤ 131104
+    small : length (x .state .marks) ≤ mostMarks
     rank : x .rank ≡ score m rows (x .state)
 
   above : (x : Ranked) → Scored x → T (positive (x .rank))

@@ -7,6 +7,7 @@ use borrow.Author.Tests.{eqb-true}
 use lib.Dec.{eqb}
 use lib.Ieee.{Float}
 use lib.ListN.{length}
+use Rattle.rows.specs.Limits.{mostMemory, mostLog}
 use Rattle.checks.specs.Refusals.{areLengths}
 use Rattle.checks.specs.Tests.{test, checkedBy}
 use Rattle.checks.specs.declared.refusal.Refusal.{Refusal}
@@ -25,8 +26,8 @@ use Rattle.scoring.specs.declared.ScoringAnswer.the-variants as answer
 -- sizes that pass
 pub record Sizes (memory log rows : ℕ) (words marks : List ℕ) (scores : List Float) : Type 0 where
   pub fit : Fit (layout rows (memory / 8) log) words marks
-  pub memory-most : memory / 8 ≤ 131072
-  pub log-most : log ≤ 65536
+  pub memory-most : memory / 8 ≤ mostMemory
+  pub log-most : log ≤ mostLog
   pub one-each : length scores ≡ rows
 
 module _ (memory log rows : ℕ) (words marks : List ℕ) (scores : List Float) where

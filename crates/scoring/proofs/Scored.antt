@@ -7,9 +7,10 @@ use native.Mathlib.Nat.{le-trans}
 use native.Mathlib.Omega.{arith}
 use lib.Ieee.{Float}
 use lib.ListN.{length, drop, length-take}
+use Rattle.rows.specs.Limits.{mostRows}
 use Rattle.rows.specs.Rows.{Row}
 use Rattle.checks.specs.declared.refusal.Checked.the-variants.{Accepted}
-use Rattle.store.specs.Store.{layout, cut}
+use Rattle.store.specs.Store.{mostMarks, layout, cut}
 use Rattle.store.proofs.Rows.{length-rows}
 use Rattle.means.specs.declared.MeanType.{MeanType}
 use Rattle.rarity.specs.Scores.{score}
@@ -27,7 +28,7 @@ cut-short (suc n) w m words marks (List·Memᴰ·head e) = rw e (omega (arith, l
 cut-short (suc n) w m words marks (List·Memᴰ·tail i) = cut-short n w m (drop w words) (drop m marks) i
 
 -- some rows, scored among all
-bounded-among : (m : MeanType) (all : List Row) → length all ≤ 4096 → ((r : Row) → List·Memᴰ r all → length (r .marks) ≤ 131104)
+bounded-among : (m : MeanType) (all : List Row) → length all ≤ mostRows → ((r : Row) → List·Memᴰ r all → length (r .marks) ≤ mostMarks)
     → (rows : List Row) → ((r : Row) → List·Memᴰ r rows → List·Memᴰ r all) → Bounded m all rows (map (score m all) rows)
 bounded-among m all few short [] among = tt
 bounded-among m all few short (r ∷ rows) among =
@@ -36,12 +37,12 @@ bounded-among m all few short (r ∷ rows) among =
 
 module _ (memory log rows : ℕ) (m : MeanType) (words marks : List ℕ) (lent : List Float) where
   module _ (h : scoringChecked memory log rows words marks lent ≡ Accepted) where
-    few : length (storeRows memory log rows words marks) ≤ 4096
+    few : length (storeRows memory log rows words marks) ≤ mostRows
     few =
         let s = layout rows (memory / 8) log in
         omega (arith, length-rows rows (s .words) (s .marks) words marks, accepted-sizes memory log rows words marks lent h .fit .sized .few)
 
-    short : (r : Row) → List·Memᴰ r (storeRows memory log rows words marks) → length (r .marks) ≤ 131104
+    short : (r : Row) → List·Memᴰ r (storeRows memory log rows words marks) → length (r .marks) ≤ mostMarks
     short r i =
         let s = layout rows (memory / 8) log in
         le-trans (cut-short rows (s .words) (s .marks) words marks i) (accepted-sizes memory log rows words marks lent h .fit .sized .memory)

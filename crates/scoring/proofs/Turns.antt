@@ -8,6 +8,7 @@ use native.Mathlib.Omega.{arith}
 use lib.Ieee.{Float, nan}
 use lib.ListN.{length, getD, set, take, drop, replicate, drop-of-length-le, length-set}
 use lib.Seq.{take-suc, take-suc-set, take-all, drop-cons}
+use Rattle.rows.specs.Limits.{mostRows}
 use Rattle.rows.specs.Rows.{row}
 use Rattle.rows.specs.Valid.{validRow}
 use Rattle.store.specs.declared.layout.Layout.{Layout}
@@ -59,7 +60,7 @@ module _ {from to : List Float} {i : ℕ} (c : Copied from i to) where
   copy-all h = sym (take-all i to (omega (arith, c .same))) ∙ c .first ∙ take-all i from h
 
 -- with the first of 4096 flags, all of them set, all rows are scored
-pub all-scored : (m : MeanType) (s : Layout) (words marks : List ℕ) → s .rows ≤ 4096
+pub all-scored : (m : MeanType) (s : Layout) (words marks : List ℕ) → s .rows ≤ mostRows
     → flaggedScores m (take (s .rows - 0) (drop 0 (replicate 4096 true))) (rowsOf s words marks) ≡ scoresOf m (rowsOf s words marks)
 all-scored m s words marks h =
     ap (λ (z : List Bool). flaggedScores m z (rowsOf s words marks)) (front-alike (s .rows) 4096 true h)

@@ -6,6 +6,7 @@ use Prim.Native.Nat.{ℕ, _/_, _≤_}
 use native.Mathlib.Nat.{add-sub-cancel-left}
 use lib.Dec.{T}
 use lib.ListN.{length}
+use Rattle.rows.specs.Limits.{mostMemory, mostLog}
 use Rattle.loader.specs.Loading.{Program, Segment, Fits}
 use Rattle.checks.specs.Refusals.{isCopyRatio}
 use Rattle.checks.specs.Tests.{checkedBy}
@@ -27,8 +28,8 @@ pub record Allowed (o : RaritySimulationOptions) (log : ℕ) (p : Program) (word
   pub accepted : searchChecked o log p words marks ≡ Accepted
   pub fit : Fit (layoutOf o log) words marks
   pub ratio : T (isCopyRatio (o .«copy_init_ratio»))
-  pub memory : o .«memory_size» / 8 ≤ 131072
-  pub log-words : log ≤ 65536
+  pub memory : o .«memory_size» / 8 ≤ mostMemory
+  pub log-words : log ≤ mostLog
   pub loadable : Loadable (layoutOf o log) p
 
 module _ (o : RaritySimulationOptions) (log : ℕ) (p : Program) (words marks : List ℕ) where
