@@ -1,10 +1,10 @@
 // One case: a creation and the runs after it, on arrays of its own.
 ghost use Prim.Native.Nat.{_≤_};
+use crate::columns::Columns;
+use crate::columns::RUN_COLUMNS;
+use crate::columns::columns_of;
+use crate::columns::is_whole;
 use crate::creation::replay_creation;
-use crate::layout::Layout;
-use crate::layout::RUN_COLUMNS;
-use crate::layout::is_whole;
-use crate::layout::layout_of;
 use crate::running::replay_run;
 use replay_lists::digest::JUNK;
 use replay_lists::digest::JUNK_MARK;
@@ -18,16 +18,16 @@ const MARKS: usize = 288;
 
 // The runs of a line one after the other, each on what the last one left of the row and of the tape. The first that disagrees
 // is the last.
-fn replay_runs(numbers: &[u64], layout: Layout, words: &mut [u64], marks: &mut [u8]) -> Judged
-    requires { ⌜ (layout .«run_count» ≤ 3) × (layout .runs ≤ 1000) ⌝ }
+fn replay_runs(numbers: &[u64], columns: Columns, words: &mut [u64], marks: &mut [u8]) -> Judged
+    requires { ⌜ (columns .«run_count» ≤ 3) × (columns .runs ≤ 1000) ⌝ }
 {
-    let end = layout.runs;
-    let mut tape = layout.tape;
+    let end = columns.runs;
+    let mut tape = columns.tape;
     let mut run = 0;
     if end > numbers.len() {
         return disagrees(0);
     }
-    while run < layout.run_count {
+    while run < columns.run_count {
         if tape > end {
             return disagrees(run as u64);
         }
@@ -46,14 +46,14 @@ fn replay_runs(numbers: &[u64], layout: Layout, words: &mut [u64], marks: &mut [
 }
 
 pub(crate) fn judge(numbers: &[u64]) -> Judged {
-    let layout = layout_of(numbers);
-    if !is_whole(numbers, layout) {
+    let columns = columns_of(numbers);
+    if !is_whole(numbers, columns) {
         return disagrees(0);
     }
     let mut words = [JUNK; WORDS];
     let mut marks = [JUNK_MARK; MARKS];
-    if replay_creation(numbers, layout, &mut words, &mut marks) {
-        replay_runs(numbers, layout, &mut words, &mut marks)
+    if replay_creation(numbers, columns, &mut words, &mut marks) {
+        replay_runs(numbers, columns, &mut words, &mut marks)
     } else {
         disagrees(0)
     }

@@ -1,13 +1,13 @@
 // A new executor, made as a line says.
 ghost use Prim.Native.Nat.{_≤_};
 ghost use lib.ListN.{length};
-use crate::layout::CODE;
-use crate::layout::CODE_ADDRESS;
-use crate::layout::DATA_ADDRESS;
-use crate::layout::DIGEST;
-use crate::layout::Layout;
-use crate::layout::NUMBER;
-use crate::layout::SIZES;
+use crate::columns::CODE;
+use crate::columns::CODE_ADDRESS;
+use crate::columns::Columns;
+use crate::columns::DATA_ADDRESS;
+use crate::columns::DIGEST;
+use crate::columns::NUMBER;
+use crate::columns::SIZES;
 use crate::sizes::Sizes;
 use crate::sizes::sizes_at;
 use checks::refusal::Checked;
@@ -26,18 +26,18 @@ fn number_of(checked: Checked) -> u64 {
 
 fn create(
     numbers: &[u64],
-    layout: Layout,
+    columns: Columns,
     sizes: Sizes,
     words: &mut [u64],
     marks: &mut [u8],
 ) -> Checked
-    requires { ⌜ (layout .«code_length» ≤ 512) × (layout .«data_length» ≤ 512) × (layout .«data» ≤ 1000) ⌝ }
+    requires { ⌜ (columns .«code_length» ≤ 512) × (columns .«data_length» ≤ 512) × (columns .«data» ≤ 1000) ⌝ }
     requires { ⌜ (sizes .words ≤ length (now words)) × (sizes .marks ≤ length (now marks)) ⌝ }
 {
     let code = bytes_at(numbers, CODE);
-    let data = bytes_at(numbers, layout.data);
-    let code_length = layout.code_length;
-    let data_length = layout.data_length;
+    let data = bytes_at(numbers, columns.data);
+    let code_length = columns.code_length;
+    let data_length = columns.data_length;
     let lent_words = sizes.words;
     let lent_marks = sizes.marks;
     executor::new_executor(
@@ -55,14 +55,14 @@ fn create(
 // Whether the creation of the line has the line's number and leaves what the line says.
 pub(crate) fn replay_creation(
     numbers: &[u64],
-    layout: Layout,
+    columns: Columns,
     words: &mut [u64],
     marks: &mut [u8],
 ) -> bool
-    requires { ⌜ (layout .«code_length» ≤ 512) × (layout .«data_length» ≤ 512) × (layout .«data» ≤ 1000) ⌝ }
+    requires { ⌜ (columns .«code_length» ≤ 512) × (columns .«data_length» ≤ 512) × (columns .«data» ≤ 1000) ⌝ }
 {
     let sizes = sizes_at(numbers, SIZES, words, marks);
-    let checked = create(numbers, layout, sizes, words, marks);
+    let checked = create(numbers, columns, sizes, words, marks);
     sizes.fit
         && number_of(checked) == number_at(numbers, NUMBER)
         && digest_of(words, marks) == number_at(numbers, DIGEST)

@@ -1,13 +1,13 @@
 // The call of a line, and the scores that it leaves.
 ghost use Prim.Native.Nat.{_≤_};
-use crate::layout::FIRST_SCORE;
-use crate::layout::LENT_MARKS;
-use crate::layout::LENT_SCORES;
-use crate::layout::LENT_WORDS;
-use crate::layout::LOG;
-use crate::layout::MEAN;
-use crate::layout::MEMORY;
-use crate::layout::ROWS;
+use crate::columns::FIRST_SCORE;
+use crate::columns::LENT_MARKS;
+use crate::columns::LENT_SCORES;
+use crate::columns::LENT_WORDS;
+use crate::columns::LOG;
+use crate::columns::MEAN;
+use crate::columns::MEMORY;
+use crate::columns::ROWS;
 use means::MeanType;
 use replay_lists::columns::is_length;
 use replay_lists::columns::length_at;

@@ -5,14 +5,14 @@ use crate::call::are_scores;
 use crate::call::call;
 use crate::call::can_lend;
 use crate::call::is_mean;
+use crate::columns::Columns;
+use crate::columns::LENT_MARKS;
+use crate::columns::LENT_WORDS;
+use crate::columns::MEAN;
+use crate::columns::NUMBER;
+use crate::columns::columns_of;
+use crate::columns::is_whole;
 use crate::counters::are_counters;
-use crate::layout::LENT_MARKS;
-use crate::layout::LENT_WORDS;
-use crate::layout::Layout;
-use crate::layout::MEAN;
-use crate::layout::NUMBER;
-use crate::layout::is_whole;
-use crate::layout::layout_of;
 use crate::runs::put_marks;
 use crate::runs::put_words;
 use replay_lists::columns::length_at;
@@ -37,35 +37,45 @@ fn replay_call(numbers: &[u64], count: usize, words: &[u64], marks: &[u8]) -> bo
     lent && number == number_at(numbers, NUMBER) && are_scores(numbers, count, &scores)
 }
 
-fn replay_counters(numbers: &[u64], layout: Layout, words: &[u64], marks: &[u8]) -> bool
-    requires { ⌜ (layout .«first_counter» ≤ 1548) × (layout .counters ≤ 1536) ⌝ }
+fn replay_counters(numbers: &[u64], columns: Columns, words: &[u64], marks: &[u8]) -> bool
+    requires { ⌜ (columns .«first_counter» ≤ 1548) × (columns .counters ≤ 1536) ⌝ }
 {
     let lent_words = length_at(numbers, LENT_WORDS, words.len());
     let lent_marks = length_at(numbers, LENT_MARKS, marks.len());
     are_counters(
         numbers,
-        layout.first_counter,
-        layout.counters,
+        columns.first_counter,
+        columns.counters,
         &words[..lent_words],
         &marks[..lent_marks],
     )
 }
 
 pub(crate) fn judge(numbers: &[u64]) -> Judged {
-    let layout = layout_of(numbers);
-    if !is_whole(numbers, layout) {
+    let columns = columns_of(numbers);
+    if !is_whole(numbers, columns) {
         return disagrees(0);
     }
     let mut words = [0; WORDS];
     let mut marks = [0; MARKS];
-    let all_words = put_words(numbers, layout.first_word_run, layout.word_runs, &mut words);
-    let all_marks = put_marks(numbers, layout.first_mark_run, layout.mark_runs, &mut marks);
+    let all_words = put_words(
+        numbers,
+        columns.first_word_run,
+        columns.word_runs,
+        &mut words,
+    );
+    let all_marks = put_marks(
+        numbers,
+        columns.first_mark_run,
+        columns.mark_runs,
+        &mut marks,
+    );
     Judged {
         agrees: all_words
             && all_marks
             && is_mean(number_at(numbers, MEAN))
-            && replay_call(numbers, layout.scores, &words, &marks)
-            && replay_counters(numbers, layout, &words, &marks),
-        parts: layout.scores as u64,
+            && replay_call(numbers, columns.scores, &words, &marks)
+            && replay_counters(numbers, columns, &words, &marks),
+        parts: columns.scores as u64,
     }
 }

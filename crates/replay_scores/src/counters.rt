@@ -3,13 +3,14 @@ ghost use Prim.Native.Nat.{_+_, _≤_, _<_};
 ghost use mathlib.Core.Path.{_≡_};
 ghost use lib.ListN.{length};
 ghost use Rattle.store.specs.Store.{Fit};
-use crate::layout::LOG;
-use crate::layout::MEMORY;
-use crate::layout::ROWS;
-use crate::layout::TRIPLE;
+use crate::columns::LOG;
+use crate::columns::MEMORY;
+use crate::columns::ROWS;
+use crate::columns::TRIPLE;
 use counting::counter::counter;
 use replay_lists::columns::length_at;
 use replay_lists::columns::number_at;
+use rows::row::REGISTERS;
 use store::layout::Layout;
 
 // The most that a store of the list has.
@@ -18,11 +19,6 @@ const MOST_ROWS: usize = 16;
 const MOST_MEMORY: usize = 2048;
 
 const MOST_LOG: usize = 16;
-
-// What a row has beside its memory and log.
-const FIXED_WORDS: usize = 37;
-
-const FIXED_MARKS: usize = 32;
 
 // Columns, counted from the first of a counter, where its cell stands.
 const BYTE: usize = 1;
@@ -35,12 +31,10 @@ const BYTES: u64 = 256;
 fn store_of(numbers: &[u64]) -> Layout
     ensures { λ r. ⌜ (r .rows ≤ 16) × (r .marks ≤ 288) × (r .words ≤ 309) × (r .marks + 5 ≤ r .words) ⌝ }
 {
+    let rows = length_at(numbers, ROWS, MOST_ROWS);
     let memory = length_at(numbers, MEMORY, MOST_MEMORY) / 8;
-    Layout {
-        rows: length_at(numbers, ROWS, MOST_ROWS),
-        words: FIXED_WORDS + memory + length_at(numbers, LOG, MOST_LOG),
-        marks: FIXED_MARKS + memory,
-    }
+    let log = length_at(numbers, LOG, MOST_LOG);
+    Layout::new(rows, memory as u64, log as u64)
 }
 
 // The counter of a cell and a byte value; the store has as many words and marks as it must.
@@ -64,7 +58,7 @@ fn is_counter(numbers: &[u64], at: usize, words: &[u64], marks: &[u8]) -> bool
     if byte >= BYTES {
         return false;
     }
-    if store.marks <= FIXED_MARKS {
+    if store.marks <= REGISTERS {
         return false;
     }
     if words.len() != store.rows * store.words {

@@ -2,8 +2,8 @@
 // written from document 01 says of the answer, of each score and of some counters.
 mod call;
 mod case;
+mod columns;
 mod counters;
-mod layout;
 mod list;
 mod runs;
 

@@ -1,7 +1,7 @@
 // The store of a line: words and marks are 0 but for runs of one value.
 ghost use Prim.Native.Nat.{_+_, _≤_};
 ghost use lib.ListN.{length};
-use crate::layout::TRIPLE;
+use crate::columns::TRIPLE;
 use replay_lists::columns::is_length;
 use replay_lists::columns::length_at;
 use replay_lists::columns::number_at;

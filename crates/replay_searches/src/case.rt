@@ -3,11 +3,11 @@ ghost use Prim.Native.Nat.{_≤_};
 ghost use lib.ListN.{length};
 use crate::asked::STATES;
 use crate::asked::are_options;
-use crate::layout::DIGEST;
-use crate::layout::Layout;
-use crate::layout::NUMBER;
-use crate::layout::is_whole;
-use crate::layout::layout_of;
+use crate::columns::Columns;
+use crate::columns::DIGEST;
+use crate::columns::NUMBER;
+use crate::columns::columns_of;
+use crate::columns::is_whole;
 use crate::searching::can_lend;
 use crate::searching::is_answer;
 use crate::searching::search_line;
@@ -37,25 +37,25 @@ fn states_of(numbers: &[u64]) -> u64 {
 }
 
 // Whether the search has the line's answer and leaves what the line says.
-fn replay_search(numbers: &[u64], layout: Layout) -> bool
-    requires { ⌜ (layout .«code_length» ≤ 512) × (layout .«data_length» ≤ 512) × (layout .«data» ≤ 1000) ⌝ }
-    requires { ⌜ (layout .tape ≤ layout .end) × (layout .end ≤ length (now numbers)) ⌝ }
+fn replay_search(numbers: &[u64], columns: Columns) -> bool
+    requires { ⌜ (columns .«code_length» ≤ 512) × (columns .«data_length» ≤ 512) × (columns .«data» ≤ 1000) ⌝ }
+    requires { ⌜ (columns .tape ≤ columns .end) × (columns .end ≤ length (now numbers)) ⌝ }
 {
     let mut words = [JUNK; WORDS];
     let mut marks = [JUNK_MARK; MARKS];
     let lent = can_lend(numbers, &words, &marks);
-    let answer = search_line(numbers, layout, &mut words, &mut marks);
+    let answer = search_line(numbers, columns, &mut words, &mut marks);
     lent && is_answer(numbers, answer) && digest_of(&words, &marks) == number_at(numbers, DIGEST)
 }
 
 pub(crate) fn judge(numbers: &[u64]) -> Judged {
-    let layout = layout_of(numbers);
-    if layout.end > numbers.len() {
+    let columns = columns_of(numbers);
+    if columns.end > numbers.len() {
         return disagrees(0);
     }
-    if is_whole(numbers, layout) && are_options(numbers) {
+    if is_whole(numbers, columns) && are_options(numbers) {
         Judged {
-            agrees: replay_search(numbers, layout),
+            agrees: replay_search(numbers, columns),
             parts: states_of(numbers),
         }
     } else {

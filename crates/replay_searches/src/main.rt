@@ -2,7 +2,7 @@
 // document 01 says of the answer and of the store that is left.
 mod asked;
 mod case;
-mod layout;
+mod columns;
 mod list;
 mod searching;
 

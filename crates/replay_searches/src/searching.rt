@@ -2,18 +2,18 @@
 ghost use Prim.Native.Nat.{_≤_};
 ghost use lib.ListN.{length};
 use crate::asked::options_of;
-use crate::layout::CODE;
-use crate::layout::CODE_ADDRESS;
-use crate::layout::DATA_ADDRESS;
-use crate::layout::LENT_MARKS;
-use crate::layout::LENT_WORDS;
-use crate::layout::LOG;
-use crate::layout::Layout;
-use crate::layout::NUMBER;
-use crate::layout::PC;
-use crate::layout::ROW;
-use crate::layout::USED;
-use crate::layout::VALUE;
+use crate::columns::CODE;
+use crate::columns::CODE_ADDRESS;
+use crate::columns::Columns;
+use crate::columns::DATA_ADDRESS;
+use crate::columns::LENT_MARKS;
+use crate::columns::LENT_WORDS;
+use crate::columns::LOG;
+use crate::columns::NUMBER;
+use crate::columns::PC;
+use crate::columns::ROW;
+use crate::columns::USED;
+use crate::columns::VALUE;
 use replay_lists::columns::bytes_at;
 use replay_lists::columns::is_length;
 use replay_lists::columns::length_at;
@@ -30,17 +30,17 @@ pub(crate) fn can_lend(numbers: &[u64], words: &[u64], marks: &[u8]) -> bool {
 // The search with this tape.
 fn search_with(
     numbers: &[u64],
-    layout: Layout,
+    columns: Columns,
     tape: &[u64],
     words: &mut [u64],
     marks: &mut [u8],
 ) -> SearchAnswer
-    requires { ⌜ (layout .«code_length» ≤ 512) × (layout .«data_length» ≤ 512) × (layout .«data» ≤ 1000) ⌝ }
+    requires { ⌜ (columns .«code_length» ≤ 512) × (columns .«data_length» ≤ 512) × (columns .«data» ≤ 1000) ⌝ }
 {
     let code = bytes_at(numbers, CODE);
-    let data = bytes_at(numbers, layout.data);
-    let code_length = layout.code_length;
-    let data_length = layout.data_length;
+    let data = bytes_at(numbers, columns.data);
+    let code_length = columns.code_length;
+    let data_length = columns.data_length;
     let lent_words = length_at(numbers, LENT_WORDS, words.len());
     let lent_marks = length_at(numbers, LENT_MARKS, marks.len());
     search::search_for_bugs(
@@ -58,16 +58,16 @@ fn search_with(
 
 pub(crate) fn search_line(
     numbers: &[u64],
-    layout: Layout,
+    columns: Columns,
     words: &mut [u64],
     marks: &mut [u8],
 ) -> SearchAnswer
-    requires { ⌜ (layout .«code_length» ≤ 512) × (layout .«data_length» ≤ 512) × (layout .«data» ≤ 1000) ⌝ }
-    requires { ⌜ (layout .tape ≤ layout .end) × (layout .end ≤ length (now numbers)) ⌝ }
+    requires { ⌜ (columns .«code_length» ≤ 512) × (columns .«data_length» ≤ 512) × (columns .«data» ≤ 1000) ⌝ }
+    requires { ⌜ (columns .tape ≤ columns .end) × (columns .end ≤ length (now numbers)) ⌝ }
 {
-    let tape = layout.tape;
-    let end = layout.end;
-    search_with(numbers, layout, &numbers[tape..end], words, marks)
+    let tape = columns.tape;
+    let end = columns.end;
+    search_with(numbers, columns, &numbers[tape..end], words, marks)
 }
 
 pub(crate) fn is_answer(numbers: &[u64], searched: SearchAnswer) -> bool {

@@ -1,9 +1,9 @@
 // One case: a sheet, and what is printed for it.
 ghost use Prim.Native.Nat.{_≤_, _<_};
 ghost use Rattle.report.specs.Reports.{sheetBuffer};
-use crate::layout::Layout;
-use crate::layout::is_whole;
-use crate::layout::layout_of;
+use crate::columns::Columns;
+use crate::columns::columns_of;
+use crate::columns::is_whole;
 use crate::printed::is_printed;
 use crate::stored::sheet_of;
 use replay_lists::digest::JUNK_MARK;
@@ -12,24 +12,24 @@ use replay_lists::tally::disagrees;
 use report::MOST_PRINTED;
 
 // Whether just the line's bytes are printed for its sheet.
-fn replay_sheet(numbers: &[u64], layout: Layout) -> bool
-    requires { ⌜ (0 < layout .stored) × (layout .stored ≤ 512) × (layout .length ≤ sheetBuffer) ⌝ }
+fn replay_sheet(numbers: &[u64], columns: Columns) -> bool
+    requires { ⌜ (0 < columns .stored) × (columns .stored ≤ 512) × (columns .length ≤ sheetBuffer) ⌝ }
 {
-    let sheet = sheet_of(numbers, layout.stored, layout.length);
+    let sheet = sheet_of(numbers, columns.stored, columns.length);
     let mut out = [JUNK_MARK; MOST_PRINTED];
-    let count = report::report(&sheet, layout.length, &mut out);
-    count == layout.printed && is_printed(numbers, layout, &out)
+    let count = report::report(&sheet, columns.length, &mut out);
+    count == columns.printed && is_printed(numbers, columns, &out)
 }
 
 pub(crate) fn judge(numbers: &[u64]) -> Judged {
-    let layout = layout_of(numbers);
-    if layout.stored == 0 {
+    let columns = columns_of(numbers);
+    if columns.stored == 0 {
         return disagrees(0);
     }
-    if is_whole(numbers, layout) {
+    if is_whole(numbers, columns) {
         Judged {
-            agrees: replay_sheet(numbers, layout),
-            parts: layout.printed as u64,
+            agrees: replay_sheet(numbers, columns),
+            parts: columns.printed as u64,
         }
     } else {
         disagrees(0)

@@ -1,6 +1,6 @@
 // Replays a list of sheets that tools/make-sheets makes, with what a model written from document 01 says is printed for each.
 mod case;
-mod layout;
+mod columns;
 mod list;
 mod printed;
 mod stored;

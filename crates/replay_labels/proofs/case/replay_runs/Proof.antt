@@ -6,11 +6,11 @@ use Rattle.replay_labels.proofs.case.replay_runs.Statement.{statement}
 use Rattle.replay_labels.proofs.case.replay_runs.Tie as tie
 
 abbrev Inv-loop : tie.InvT-loop
-Inv-loop numbers layout words₀ marks₀ end tape₀ run₀ words marks tape run =
-    (run ≤ layout .«run_count») × (length words ≡ length words₀) × (length marks ≡ length marks₀)
+Inv-loop numbers columns words₀ marks₀ end tape₀ run₀ words marks tape run =
+    (run ≤ columns .«run_count») × (length words ≡ length words₀) × (length marks ≡ length marks₀)
 
 abbrev μ-loop : tie.MeasureT-loop
-μ-loop numbers layout words₀ marks₀ end tape₀ run₀ words marks tape run = layout .«run_count» - run
+μ-loop numbers columns words₀ marks₀ end tape₀ run₀ words marks tape run = columns .«run_count» - run
 
 disagrees-requires : tie.Need-disagrees-requires Inv-loop μ-loop
 disagrees-requires c κs = search needs

@@ -5,10 +5,10 @@ use Rattle.replay_sheets.proofs.printed.is_printed.Statement.{statement
 use Rattle.replay_sheets.proofs.printed.is_printed.Tie as tie
 
 abbrev Inv-loop : tie.InvT-loop
-Inv-loop numbers layout out i₀ i = i ≤ mostPrinted
+Inv-loop numbers columns out i₀ i = i ≤ mostPrinted
 
 abbrev μ-loop : tie.MeasureT-loop
-μ-loop numbers layout out i₀ i = mostPrinted - i
+μ-loop numbers columns out i₀ i = mostPrinted - i
 
 loop-holds : tie.Need-loop-holds Inv-loop μ-loop
 loop-holds c = search needs

@@ -34,7 +34,7 @@ pub(crate) const TRIPLE: usize = 3;
 // The most that a line has.
 pub(crate) const MOST_NUMBERS: usize = 1536;
 
-pub(crate) struct Layout {
+pub(crate) struct Columns {
     pub(crate) scores: usize,
     // how many there are, and where the first stands
     pub(crate) counters: usize,
@@ -45,7 +45,7 @@ pub(crate) struct Layout {
     pub(crate) first_mark_run: usize,
 }
 
-pub(crate) fn layout_of(numbers: &[u64]) -> Layout
+pub(crate) fn columns_of(numbers: &[u64]) -> Columns
     ensures { λ r. ⌜ (r .scores ≤ 1536) × (r .counters ≤ 1536) × (r .«word_runs» ≤ 1536) × (r .«mark_runs» ≤ 1536) ⌝ }
     ensures { λ r. ⌜ (r .«first_counter» ≤ 1548) × (r .«first_word_run» ≤ 6156) × (r .«first_mark_run» ≤ 10764) ⌝ }
 {
@@ -54,7 +54,7 @@ pub(crate) fn layout_of(numbers: &[u64]) -> Layout
     let word_runs = length_at(numbers, WORD_RUNS, MOST_NUMBERS);
     let first_counter = FIRST_SCORE + scores;
     let first_word_run = first_counter + TRIPLE * counters;
-    Layout {
+    Columns {
         scores,
         counters,
         first_counter,
@@ -66,8 +66,8 @@ pub(crate) fn layout_of(numbers: &[u64]) -> Layout
 }
 
 // Whether the line has just so many numbers as it says.
-pub(crate) fn is_whole(numbers: &[u64], layout: Layout) -> bool
-    requires { ⌜ (layout .«first_mark_run» ≤ 10764) × (layout .«mark_runs» ≤ 1536) ⌝ }
+pub(crate) fn is_whole(numbers: &[u64], columns: Columns) -> bool
+    requires { ⌜ (columns .«first_mark_run» ≤ 10764) × (columns .«mark_runs» ≤ 1536) ⌝ }
 {
-    numbers.len() == layout.first_mark_run + TRIPLE * layout.mark_runs
+    numbers.len() == columns.first_mark_run + TRIPLE * columns.mark_runs
 }

@@ -40,7 +40,7 @@ pub(crate) const CODE: usize = 21;
 // The most that a line has.
 pub(crate) const MOST_NUMBERS: usize = 320;
 
-pub(crate) struct Layout {
+pub(crate) struct Columns {
     // in bytes
     pub(crate) code_length: usize,
     pub(crate) data_length: usize,
@@ -50,14 +50,14 @@ pub(crate) struct Layout {
     pub(crate) end: usize,
 }
 
-pub(crate) fn layout_of(numbers: &[u64]) -> Layout
+pub(crate) fn columns_of(numbers: &[u64]) -> Columns
     ensures { λ r. ⌜ (r .«code_length» ≤ 512) × (r .«data_length» ≤ 512) × (r .«data» ≤ 1000) × (r .tape ≤ r .end) ⌝ }
 {
     let code_length = length_at(numbers, CODE_LENGTH, MOST_BYTES);
     let data_length = length_at(numbers, DATA_LENGTH, MOST_BYTES);
     let data = CODE + words_of(code_length);
     let tape = data + words_of(data_length);
-    Layout {
+    Columns {
         code_length,
         data_length,
         data,
@@ -67,8 +67,8 @@ pub(crate) fn layout_of(numbers: &[u64]) -> Layout
 }
 
 // Whether the line has the lengths that it says, and just so many numbers.
-pub(crate) fn is_whole(numbers: &[u64], layout: Layout) -> bool {
-    is_length(numbers, CODE_LENGTH, layout.code_length)
-        && is_length(numbers, DATA_LENGTH, layout.data_length)
-        && numbers.len() == layout.end
+pub(crate) fn is_whole(numbers: &[u64], columns: Columns) -> bool {
+    is_length(numbers, CODE_LENGTH, columns.code_length)
+        && is_length(numbers, DATA_LENGTH, columns.data_length)
+        && numbers.len() == columns.end
 }

@@ -20,7 +20,7 @@ pub(crate) const MOST_NUMBERS: usize = 512;
 
 pub(crate) const WORD_BYTES: usize = 8;
 
-pub(crate) struct Layout {
+pub(crate) struct Columns {
     pub(crate) length: usize,
     // words of the sheet that the line has
     pub(crate) stored: usize,
@@ -28,10 +28,10 @@ pub(crate) struct Layout {
     pub(crate) printed: usize,
 }
 
-pub(crate) fn layout_of(numbers: &[u64]) -> Layout
+pub(crate) fn columns_of(numbers: &[u64]) -> Columns
     ensures { λ r. ⌜ (r .length ≤ sheetBuffer) × (r .stored ≤ 512) × (r .printed ≤ mostPrinted) ⌝ }
 {
-    Layout {
+    Columns {
         length: length_at(numbers, LENGTH, SHEET_BUFFER),
         stored: length_at(numbers, STORED, MOST_NUMBERS),
         printed: length_at(numbers, PRINTED, MOST_PRINTED),
@@ -39,16 +39,16 @@ pub(crate) fn layout_of(numbers: &[u64]) -> Layout
 }
 
 // Whether these are the lengths that the line says.
-fn are_lengths(numbers: &[u64], layout: Layout) -> bool {
-    is_length(numbers, LENGTH, layout.length)
-        && is_length(numbers, STORED, layout.stored)
-        && is_length(numbers, PRINTED, layout.printed)
+fn are_lengths(numbers: &[u64], columns: Columns) -> bool {
+    is_length(numbers, LENGTH, columns.length)
+        && is_length(numbers, STORED, columns.stored)
+        && is_length(numbers, PRINTED, columns.printed)
 }
 
 // Whether the line has just so many numbers.
-pub(crate) fn is_whole(numbers: &[u64], layout: Layout) -> bool
-    requires { ⌜ (layout .stored ≤ 512) × (layout .printed ≤ mostPrinted) ⌝ }
+pub(crate) fn is_whole(numbers: &[u64], columns: Columns) -> bool
+    requires { ⌜ (columns .stored ≤ 512) × (columns .printed ≤ mostPrinted) ⌝ }
 {
-    let words = (layout.printed + WORD_BYTES - 1) / WORD_BYTES;
-    are_lengths(numbers, layout) && numbers.len() == SHEET + layout.stored + words
+    let words = (columns.printed + WORD_BYTES - 1) / WORD_BYTES;
+    are_lengths(numbers, columns) && numbers.len() == SHEET + columns.stored + words
 }

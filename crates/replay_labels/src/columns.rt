@@ -34,7 +34,7 @@ pub(crate) const MOST_NUMBERS: usize = 192;
 
 const MOST_RUNS: usize = 3;
 
-pub(crate) struct Layout {
+pub(crate) struct Columns {
     // in bytes
     pub(crate) code_length: usize,
     pub(crate) data_length: usize,
@@ -45,14 +45,14 @@ pub(crate) struct Layout {
     pub(crate) run_count: usize,
 }
 
-pub(crate) fn layout_of(numbers: &[u64]) -> Layout
+pub(crate) fn columns_of(numbers: &[u64]) -> Columns
     ensures { λ r. ⌜ (r .«code_length» ≤ 512) × (r .«data_length» ≤ 512) × (r .«run_count» ≤ 3) × (r .«data» ≤ 1000) × (r .runs ≤ 1000) ⌝ }
 {
     let code_length = length_at(numbers, CODE_LENGTH, MOST_BYTES);
     let data_length = length_at(numbers, DATA_LENGTH, MOST_BYTES);
     let data = CODE + words_of(code_length);
     let tape = data + words_of(data_length);
-    Layout {
+    Columns {
         code_length,
         data_length,
         data,
@@ -63,11 +63,11 @@ pub(crate) fn layout_of(numbers: &[u64]) -> Layout
 }
 
 // Whether the line has the lengths that it says, and just so many numbers.
-pub(crate) fn is_whole(numbers: &[u64], layout: Layout) -> bool
-    requires { ⌜ (layout .«run_count» ≤ 3) × (layout .runs ≤ 1000) ⌝ }
+pub(crate) fn is_whole(numbers: &[u64], columns: Columns) -> bool
+    requires { ⌜ (columns .«run_count» ≤ 3) × (columns .runs ≤ 1000) ⌝ }
 {
-    is_length(numbers, CODE_LENGTH, layout.code_length)
-        && is_length(numbers, DATA_LENGTH, layout.data_length)
-        && is_length(numbers, RUNS, layout.run_count)
-        && numbers.len() == layout.runs + layout.run_count * RUN_COLUMNS
+    is_length(numbers, CODE_LENGTH, columns.code_length)
+        && is_length(numbers, DATA_LENGTH, columns.data_length)
+        && is_length(numbers, RUNS, columns.run_count)
+        && numbers.len() == columns.runs + columns.run_count * RUN_COLUMNS
 }
