@@ -4,6 +4,7 @@ use lib.Ieee.{Float, binary64, ofBits}
 use Prim.Native.Nat.{_≤_}
 use lib.ListN.{length, replicate}
 use borrow.Author.Tests.{not-true, not-false}
+use Rattle.rows.specs.Limits.{mostRows}
 use Rattle.store.specs.Store.{rowsOf}
 use Rattle.store.proofs.Rows.{fit-same}
 use Rattle.rarity.specs.Scores.{flaggedScores}
@@ -20,7 +21,7 @@ abbrev written : tie.After-score-rows → List Float
 written c = c .score-rows .last .1 .1 .1 .1 .1 .0
 
 abbrev zeros : List Float
-zeros = replicate 4096 (ofBits binary64 0)
+zeros = replicate mostRows (ofBits binary64 0)
 
 abbrev scores : tie.After-score-rows → List Float
 scores c = let a = entry c .args in flaggedScores (a .options .mean) (a .running .now) (rowsOf (a .store) (a .words .now) (a .marks .now))

@@ -3,6 +3,7 @@ use mathlib.Core.Path.{_≡_}
 use mathlib.Core.List.{List, map}
 use Prim.Native.Nat.{_≤_}
 use lib.ListN.{length, replicate}
+use Rattle.rows.specs.Limits.{mostRows}
 use Rattle.store.specs.Store.{rowsOf}
 use Rattle.rounds.specs.Rounds.{runAll, runningFlag}
 use Rattle.round.proofs.Parts.{given-back, front, front-within, front-is}
@@ -18,7 +19,7 @@ abbrev written : tie.After-run-all → List Bool
 written c = c .run-all .last .1 .1 .1 .0
 
 abbrev unset : List Bool
-unset = replicate 4096 false
+unset = replicate mostRows false
 
 abbrev flags : tie.After-run-all → List Bool
 flags c =
