@@ -54,5 +54,5 @@ cases =
       p11 = refl;
       p11-number = refl;
       p12 = refl;
-      settled-call-case = refl;
+      whole-case = refl;
     }

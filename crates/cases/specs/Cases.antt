@@ -14,7 +14,7 @@ use Rattle.rows.specs.Rows.{Row, blank, rowWords, rowMarks, logStart, setWord, 
 use Rattle.calls.specs.Calls.{Called, stepTo, callOf, a0, a1, a2}
 use Rattle.calls.specs.declared.step.Step.the-variants as step
 use Rattle.loader.specs.Loading.{segment, program, newExecutor}
-use Rattle.machine.specs.Steps.{fetched, executed, whole}
+use Rattle.machine.specs.Steps.{fetched, executed, settledCall}
 use Rattle.machine.specs.Runs.{Finished, runOf, stops}
 use Rattle.machine.specs.declared.step.Fetched.the-variants.{Word}
 use Rattle.means.specs.Means.{Fraction, exactMean}
@@ -36,7 +36,7 @@ passed used r = stepTo step.Running used r
 
 -- document 01's number of what an instruction or a call came to
 abbrev pub numberOf : Called → ℕ
-numberOf x = progressNumber (whole x .moved .progress)
+numberOf x = progressNumber (settledCall x .moved .progress)
 
 -- ---- single instructions, by their encodings
 abbrev pub after : ℕ → Row → Called
