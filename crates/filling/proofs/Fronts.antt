@@ -1,6 +1,6 @@
 -- A store of which the first rows are known and the others are zero; and these first rows grown by one, which is a turn of either loop of filling.
-use mathlib.Core.Path.{_≡_, refl, sym, ap, _∙_, subst}
-use mathlib.Core.List.{List, [], _∷_, _++_, map, append-assoc, append-nil}
+use mathlib.Core.Path.{_≡_, sym, ap, _∙_, subst}
+use mathlib.Core.List.{List, [], _∷_, _++_, map, map-append, append-assoc, append-nil}
 use Prim.Native.Nat.{ℕ, suc, _+_, _-_, _%_, _≤_, _<_}
 use native.Mathlib.Nat.{mod-lt, add-zero}
 use native.Mathlib.Numerals.{add-one}
@@ -79,10 +79,6 @@ front-more {s} {front} words′ marks′ at x l h fit e f =
     }
 
 -- ---- copies
-
-map-append : {A B : Type 0} (f : A → B) (l m : List A) → map f (l ++ m) ≡ map f l ++ map f m
-map-append f [] m = refl
-map-append {A} {B} f (x ∷ l) m = ap (λ (k : List B). f x ∷ k) (map-append f l m)
 
 pub with-copies-length : (kept : List Row) (draws : List ℕ) → length (withCopies kept draws) ≡ length kept + length draws
 with-copies-length kept draws = length-append kept (map (parent kept) draws) ∙ ap (λ (n : ℕ). length kept + n) (length-map draws (parent kept))

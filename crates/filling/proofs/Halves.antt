@@ -19,7 +19,6 @@ use native.Mathlib.Nat.{
   mul-le-mul,
   mul-le-mul-right,
   le-of-mul-le-mul-right,
-  eq-of-mul-eq-mul-right,
   div-div-eq-div-mul,
   add-div-right,
   mul-div-mul-right,
@@ -37,6 +36,7 @@ use lib.Ieee.{Float, nan, inf, fin, binary64, up, down, fits, round, add, sum, m
 use lib.Ieee.Exact.{HasValue, round-exact}
 use lib.Ieee.Fits.{down-pos, and-l, and-r, mul-fits}
 use lib.Ieee.Nearest.{div-same}
+use Rattle.laws.proofs.Numbers.{no-factor}
 use Rattle.rows.specs.Limits.{mostRows}
 use Rattle.checks.specs.Refusals.{isCopyRatio}
 use Rattle.means.specs.Means.{whole}
@@ -102,10 +102,6 @@ doubled false (suc m) e f b = sum-rounded false (suc m) e (fit-parts false m e f
 doubled true (suc m) e f b = sum-rounded true (suc m) e (fit-parts true m e f .0) (fit-parts true m e f .1) b
 
 -- ---- what a cast makes of a value a / c, which is zero where it has a minus sign
-
--- a product of 0 with a factor above 0
-no-factor : (x c : ℕ) → 0 < c → x * c ≡ 0 → x ≡ 0
-no-factor x c h e = eq-of-mul-eq-mul-right c h x 0 (e ∙ sym (zero-mul c))
 
 module _ (a c : ℕ) (some : 0 < c) where
   cast-of : (y : Float) (s : Bool) → HasValue y s a c → (T s → a ≡ 0) → a / c ≤ 2 ^ 64 - 1 → toUnsigned 64 y ≡ a / c

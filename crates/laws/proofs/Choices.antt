@@ -1,6 +1,9 @@
--- What a test chooses, and tests of two parts.
-use mathlib.Core.Path.{_≡_, refl}
-use mathlib.Core.Bool.{Bool, true, false, cond, _&&_}
+-- What a test chooses, tests of two parts, and tests that are the same.
+use mathlib.Core.Path.{_≡_, refl, sym, _∙_}
+use mathlib.Core.Bool.{Bool, true, false, cond, _&&_, _||_}
+use Prim.Native.Nat.{ℕ, _≤_, _<_}
+use lib.Dec.{ltb}
+use borrow.Author.Tests.{lt-ltb, le-ltb, ltb-true, ltb-false}
 
 -- a claim about it, from the claim about each choice
 pub chosen : {A : Type 0} (P : A → Type 0) (b : Bool) (x y : A) → (b ≡ true → P x) → (b ≡ false → P y) → P (cond b x y)
@@ -24,3 +27,16 @@ both p q = rw (p, q)
 pub parts : (a b : Bool) → a && b ≡ true → (a ≡ true) × (b ≡ true)
 parts true b h = (refl, h)
 parts false b h = (cc, cc)
+
+-- neither of two tests holds
+pub neither : (a b : Bool) → (a || b) ≡ false → (a ≡ false) × (b ≡ false)
+neither true b h = (h, cc)
+neither false b h = (refl, h)
+
+-- two tests that hold of the same numbers are equal
+pub same-test : (a b c d : ℕ) → (a < b → c < d) → (b ≤ a → d ≤ c) → ltb a b ≡ ltb c d
+same-test a b c d f g = go (ltb a b) refl
+  where
+    go : (t : Bool) → ltb a b ≡ t → ltb a b ≡ ltb c d
+    go true p = p ∙ sym (lt-ltb c d (f (ltb-true a b p)))
+    go false p = p ∙ sym (le-ltb c d (g (ltb-false a b p)))

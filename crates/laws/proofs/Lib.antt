@@ -1,5 +1,9 @@
 pub mod Absurd
 pub mod Choices
 pub mod Clearing
+pub mod Floats
+pub mod Fronts
 pub mod Lists
+pub mod Numbers
+pub mod Parts
 pub mod Sums

@@ -8,6 +8,7 @@ use lib.ListN.{length}
 use lib.Dec.{lit<, lit≤}
 use lib.Ieee.{Float}
 use lib.Ieee.Positive.{num, den, den-pos, first-pos}
+use Rattle.laws.proofs.Floats.{plain-positive}
 use Rattle.means.specs.declared.MeanType.{MeanType}
 use Rattle.means.specs.declared.MeanType.the-variants.{Arithmetic, Harmonic}
 use Rattle.means.specs.Means.{Counters, Fraction, Scores, whole, reciprocals, sum, product, shares, mean, exactMean}
@@ -15,7 +16,7 @@ use Rattle.means.specs.Tallies.{mostCounters}
 use Rattle.means.proofs.Fractions.{fraction, over, looser}
 use Rattle.means.proofs.Closeness.{Close, close-looser, close-over, once-more}
 use Rattle.means.proofs.Rounding.{value, rounded, mostWhole, Ranged, whole-before, rounded-positive, rounded-close}
-use Rattle.means.proofs.Operations.{plain-positive, div-whole, div-wholes}
+use Rattle.means.proofs.Operations.{div-whole, div-wholes}
 use Rattle.means.proofs.Shares.{reciprocal-sum, shares-some, sum-least, sum-most}
 use Rattle.means.proofs.Summing.{Summed, summed}
 

@@ -3,52 +3,20 @@ use mathlib.Core.Path.{_≡_, refl, sym, ap, _∙_}
 use Prim.Native.Nat.{ℕ, _*_, _≤_, _<_}
 use native.Mathlib.Nat.{mul-comm, mul-assoc, mul-one, mul-pos, lt-irrefl}
 use mathlib.Core.Bool.{Bool, true, false, cond}
-use lib.Dec.{T, le→leb, eqb, eqb→eq, ltb→lt, lt→ltb}
+use lib.Dec.{T, le→leb, eqb, eqb→eq, ltb→lt}
 use lib.IntN.{pos}
-use lib.Ieee.{Float, nan, inf, fin, binary64, up, add, div, inFloat}
-use lib.Ieee.Fits.{up-pos}
+use lib.Ieee.{Float, binary64, add, div, inFloat}
 use lib.Ieee.Scale.{round-same}
-use lib.Ieee.Positive.{num, den, den-pos, positive, value→cross, first-pos}
+use lib.Ieee.Positive.{num, den, den-pos, positive, value→cross}
+use Rattle.laws.proofs.Floats.{plain, positive-plain, positive-num, both-plain}
 use Rattle.means.specs.Means.{whole}
 use Rattle.means.proofs.Fractions.{fraction, plus, over}
 use Rattle.means.proofs.Rounding.{value, rounded, mostWhole, whole-value, whole-positive}
 
--- ---- signs
--- finite, with no minus sign: 0 or above
-abbrev pub plain : Float → Bool
-plain nan = false
-plain (inf s) = false
-plain (fin true m e) = false
-plain (fin false m e) = true
-
-pub positive-plain : (x : Float) → T (positive x) → T (plain x)
-positive-plain nan p = p
-positive-plain (inf s) p = p
-positive-plain (fin true m e) p = p
-positive-plain (fin false m e) p = tt
-
-pub plain-positive : (x : Float) → T (plain x) → 0 < num x → T (positive x)
-plain-positive nan p h = p
-plain-positive (inf s) p h = p
-plain-positive (fin true m e) p h = p
-plain-positive (fin false m e) p h = lt→ltb 0 m (first-pos m (up e) h)
-
-pub positive-num : (x : Float) → T (positive x) → 0 < num x
-positive-num nan p = absurd p
-positive-num (inf s) p = absurd p
-positive-num (fin true m e) p = absurd p
-positive-num (fin false m e) p = mul-pos (ltb→lt 0 m p) (up-pos e)
-
 -- ---- a sum and a quotient
 pub add-is : (x y : Float) → T (plain x) → T (plain y) → add binary64 x y ≡ rounded (plus (value x) (value y))
 unfolding add
-add-is nan y p q = absurd p
-add-is (inf s) y p q = absurd p
-add-is (fin true m e) y p q = absurd p
-add-is (fin false m e) nan p q = absurd q
-add-is (fin false m e) (inf t) p q = absurd q
-add-is (fin false m e) (fin true n d) p q = absurd q
-add-is (fin false m e) (fin false n d) p q = refl
+add-is = both-plain (λ x y. add binary64 x y ≡ rounded (plus (value x) (value y))) (λ m e n d. refl)
 
 -- `div` asks first whether the divisor is 0
 not-zero : {A : Type 0} (n : ℕ) (x y : A) → 0 < n → cond (eqb n 0) x y ≡ y
@@ -60,13 +28,9 @@ not-zero n x y h = go (eqb n 0) (eqb→eq n 0)
 
 div-is : (x y : Float) → T (plain x) → T (positive y) → div binary64 x y ≡ rounded (fraction (num x * den y) (num y * den x))
 unfolding div
-div-is nan y p q = absurd p
-div-is (inf s) y p q = absurd p
-div-is (fin true m e) y p q = absurd p
-div-is (fin false m e) nan p q = absurd q
-div-is (fin false m e) (inf t) p q = absurd q
-div-is (fin false m e) (fin true n d) p q = absurd q
-div-is (fin false m e) (fin false n d) p q = not-zero n _ _ (ltb→lt 0 n q)
+div-is x y p q =
+    both-plain (λ x y. T (positive y) → div binary64 x y ≡ rounded (fraction (num x * den y) (num y * den x))) (λ m e n d r. not-zero n _ _ (ltb→lt 0 n r)) x y p
+    (positive-plain y q) q
 
 -- ---- whole numbers up to 2^53
 -- a cast loses nothing

@@ -8,12 +8,13 @@ use lib.ListN.{length}
 use lib.Dec.{T, lit<, lit≤}
 use lib.Ieee.{Float, binary64, add, div, ofInt}
 use lib.Ieee.Positive.{num, den, den-pos}
+use Rattle.laws.proofs.Floats.{plain, positive-plain}
 use Rattle.means.specs.Means.{Counters, Fraction, whole, reciprocals}
 use Rattle.means.specs.Tallies.{mostCounters}
 use Rattle.means.proofs.Fractions.{fraction, plus}
 use Rattle.means.proofs.Closeness.{Close, close-looser, close-plus, once-more}
 use Rattle.means.proofs.Rounding.{value, rounded, Ranged, rounded-positive, rounded-least, rounded-most, rounded-close}
-use Rattle.means.proofs.Operations.{plain, positive-plain, add-is, div-wholes}
+use Rattle.means.proofs.Operations.{add-is, div-wholes}
 use Rattle.means.proofs.Shares.{plusReciprocals}
 
 -- x is the sum of k reciprocals as computed, f the exact sum. x is at most k and, from the first counter on, at least 2^-15; and it is at most 5k + 4 units off

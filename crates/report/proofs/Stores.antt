@@ -5,10 +5,10 @@ use Prim.Native.Nat.{ℕ, _*_, _/_, _≤_}
 use native.Mathlib.Nat.{mul-le-mul}
 use native.Mathlib.Omega.{arith}
 use lib.ListN.{length}
+use Rattle.laws.proofs.Fronts.{front-alike}
 use Rattle.rows.specs.Rows.{rowWords, rowMarks}
 use Rattle.store.specs.Store.{rowsOf}
 use Rattle.store.specs.declared.layout.Layout.{Layout}
-use Rattle.store.proofs.Fronts.{front-alike}
 use Rattle.rounds.specs.Calls.{layoutOf}
 use Rattle.search.specs.Entry.{Left, left, searchEntry}
 use Rattle.search.specs.declared.answer.SearchAnswer.{SearchAnswer}

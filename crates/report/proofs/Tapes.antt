@@ -4,7 +4,7 @@ use mathlib.Core.List.{List}
 use Prim.Native.Nat.{ℕ, _*_, _-_, _/_, _≤_}
 use native.Mathlib.Omega.{arith}
 use lib.ListN.{length, take, drop, length-drop}
-use Rattle.rows.proofs.Parts.{to-end}
+use Rattle.laws.proofs.Parts.{to-end}
 use Rattle.sheet.specs.Sheets.{parsed, benchLimits, wordsIn, tapeOf}
 use Rattle.sheet.specs.declared.parse.Sheet.{Sheet}
 use Rattle.sheet.specs.declared.parse.Parsed.the-variants.{Accepted}

@@ -3,7 +3,7 @@ use mathlib.Core.Path.{_≡_, ap, _∙_}
 use mathlib.Core.List.{List}
 use Prim.Native.Nat.{ℕ, _-_, _≤_}
 use lib.ListN.{length, take, drop, replicate, length-replicate}
-use Rattle.store.proofs.Fronts.{front-alike}
+use Rattle.laws.proofs.Fronts.{front-alike}
 
 abbrev pub zeros : ℕ → List ℕ
 zeros n = replicate n 0

@@ -3,7 +3,6 @@ use mathlib.Core.Bool.{Bool, true, false, cond}
 use mathlib.Core.List.{List}
 use mathlib.Core.Path.{_≡_, refl, sym, ap, _∙_}
 use Prim.Native.Nat.{ℕ, _+_, _<_, _^_}
-use native.Mathlib.Omega.{arith}
 use Rattle.rows.specs.Rows.{Row}
 use Rattle.store.specs.Store.{Sized}
 use Rattle.answers.specs.declared.finding.Finding.the-variants as finding
@@ -24,7 +23,7 @@ module _ (c : Call) (s : Start) {rows : List Row} (left : rows ≡ afterFilling 
       by : (b : Bool) → TapeShort ≡ cond b TapeShort (Filled (s .used + copies c s)) → rows ≡ cond b (stored (c .store) (s .kept)) (filled c s)
           → ends finding.TapeShort rows (s .used) ≡ cond b (ends finding.TapeShort (stored (c .store) (s .kept)) (s .used)) (roundOf c s .after)
       by true e r = ap (λ (l : List Row). ends finding.TapeShort l (s .used)) r
-      by false e r = let z : _≡_ {A = ℕ} 0 1 = cc in absurd (omega arith)
+      by false e r = cc
 
   module _ {used : ℕ} (full : answer ≡ Filled used) where
     not-short : tapeShort c s ≡ false
@@ -32,7 +31,7 @@ module _ (c : Call) (s : Start) {rows : List Row} (left : rows ≡ afterFilling 
     not-short = by (tapeShort c s) (sym full ∙ is)
       where
         by : (b : Bool) → Filled used ≡ cond b TapeShort (Filled (s .used + copies c s)) → b ≡ false
-        by true e = let z : _≡_ {A = ℕ} 0 1 = cc in absurd (omega arith)
+        by true e = cc
         by false e = refl
 
     is-filled : rows ≡ filled c s

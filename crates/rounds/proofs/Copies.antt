@@ -3,7 +3,7 @@ use mathlib.Core.Bool.{Bool, true, false, _&&_, _||_, true≢false}
 use mathlib.Core.Logic.{_⊎_, inl, inr, ⊎-elim}
 use mathlib.Core.Path.{_≡_, sym, ap, _∙_, subst}
 use Prim.Native.Nat.{ℕ, _*_, _^_, _≤_, _<_}
-use native.Mathlib.Nat.{le-of-eq, le-of-lt, le-of-suc-le-suc, lt-irrefl, lt-of-le-of-lt, eq-zero-or-pos, div-lt-iff-lt-mul}
+use native.Mathlib.Nat.{le-of-eq, le-of-lt, le-of-suc-le-suc, lt-of-le-of-lt, div-lt-iff-lt-mul}
 use native.Mathlib.Nat.{suc-mul, mul-assoc, mul-comm, mul-left-comm, mul-right-comm, mul-one, one-mul, zero-mul, mul-zero, mul-pos}
 use native.Mathlib.Nat.{mul-le-mul, mul-le-mul-right, le-of-mul-le-mul-right}
 use native.Mathlib.Omega.{arith}
@@ -13,6 +13,7 @@ use lib.Ieee.Exact.{HasValue, round-exact}
 use lib.Ieee.Fits.{up-pos, down-pos, and-l, and-r}
 use lib.Ieee.Order.{round-mono}
 use lib.IntN.{pos}
+use Rattle.laws.proofs.Numbers.{no-factor}
 use Rattle.rows.specs.Limits.{mostRows}
 use Rattle.checks.specs.Refusals.{isCopyRatio}
 use Rattle.rounds.specs.Copies.{nearest, toCopy}
@@ -35,9 +36,6 @@ at-most a b t =
     (λ (h : T (ltb a b)). le-of-lt (ltb→lt a b h))
     (λ (h : T (eqb a b && (true || eqb a 0))). le-of-eq (eqb→eq a b (and-l (eqb a b) (true || eqb a 0) h)))
     (either (ltb a b) (eqb a b && (true || eqb a 0)) t)
-
-no-factor : (m u : ℕ) → 0 < u → m * u ≡ 0 → m ≡ 0
-no-factor m u h e = ⊎-elim (λ (z : m ≡ 0). z) (λ (z : 0 < m). absurd (lt-irrefl 0 (rw e at (mul-pos z h)))) (eq-zero-or-pos m)
 
 between : (x low high : Float) (n : ℕ) → HasValue low false 0 1 → HasValue high false n 1 → T (le low x) → T (le x high) → UpTo x n
 unfolding le lt eq

@@ -5,20 +5,15 @@ use Prim.Native.Nat.{ℕ, _*_, _≤_, _<_}
 use native.Mathlib.Nat.{le-refl, le-of-lt, le-of-eq, le-trans, lt-of-lt-of-le, lt-of-le-of-lt}
 use native.Mathlib.Nat.{mul-right-comm, mul-le-mul-right, mul-lt-mul-of-pos-right, lt-of-mul-lt-mul-right}
 use lib.Dec.{T, ltb}
-use lib.Ieee.{Float, nan, inf, fin, lt, le}
+use lib.Ieee.{Float, lt, le}
 use lib.Ieee.Positive.{num, den, positive, cross→le, den-pos}
 use borrow.Author.Tests.{ltb-true, ltb-false, lt-ltb, le-ltb}
+use Rattle.laws.proofs.Floats.{positive-plain, both-plain}
 
 -- by cross multiplication
 lt-is : (x y : Float) → T (positive x) → T (positive y) → lt x y ≡ ltb (num x * den y) (num y * den x)
 unfolding lt
-lt-is nan y p q = absurd p
-lt-is (inf s) y p q = absurd p
-lt-is (fin true m e) y p q = absurd p
-lt-is (fin false m e) nan p q = absurd q
-lt-is (fin false m e) (inf t) p q = absurd q
-lt-is (fin false m e) (fin true n d) p q = absurd q
-lt-is (fin false m e) (fin false n d) p q = refl
+lt-is x y p q = both-plain (λ x y. lt x y ≡ ltb (num x * den y) (num y * den x)) (λ m e n d. refl) x y (positive-plain x p) (positive-plain y q)
 
 pub lt-irreflexive : (x : Float) → T (positive x) → lt x x ≡ false
 lt-irreflexive x p = lt-is x x p p ∙ le-ltb (num x * den x) (num x * den x) (le-refl (num x * den x))

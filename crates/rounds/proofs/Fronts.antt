@@ -6,14 +6,11 @@ use Prim.Native.Nat.{ℕ, zero, suc, _≤_}
 use native.Mathlib.Nat.{not-suc-le-zero, le-of-suc-le-suc}
 use native.Mathlib.Omega.{arith}
 use lib.ListN.{length, take, length-append}
+use lib.Seq.{take-nil}
 use Rattle.answers.specs.declared.finding.Finding.the-variants.{Nothing}
 use Rattle.rounds.specs.Calls.{Call, ofRounds}
 use Rattle.rounds.specs.Rounds.{Start, beginning, stored, tapeShort, filled, chosenOf, selected, After, goesOn, ends, Round, ranOn, roundOf}
 use Rattle.rounds.specs.Rounds.{roundsAfter, rounds, roundsOf, Searched, searchedAfter, searchFrom, searched}
-
-take-none : {A : Type 0} (k : ℕ) → _≡_ {A = List A} [] (take k [])
-take-none zero = refl
-take-none (suc k) = refl
 
 module _ (c : Call) where
   -- a round does not read how many rounds there are
@@ -54,7 +51,7 @@ module _ (c : Call) where
       after : (a : After) → ((t : Start) → rounds k c t ≡ take k (rounds n c t))
           → roundsAfter a (λ t. rounds k c t) ≡ take k (roundsAfter a (λ t. rounds n c t))
       after (goesOn t) more = more t
-      after (ends f rows used) more = take-none k
+      after (ends f rows used) more = sym (take-nil k)
 
       filled-or : (b : Bool) → ((t : Start) → rounds k c t ≡ take k (rounds n c t)) → cond b [] (from k s) ≡ take (suc k) (cond b [] (from n s))
       filled-or true more = refl

@@ -3,7 +3,6 @@ use mathlib.Core.Bool.{Bool, true, false, cond}
 use mathlib.Core.List.{List, [], _∷_, _++_, map, map-append, List·Memᴰ}
 use mathlib.Core.Path.{_≡_, refl, ap, _∙_}
 use Prim.Native.Nat.{ℕ, min, _≤_}
-use native.Mathlib.Omega.{arith}
 use lib.Dec.{T}
 use lib.Ieee.Positive.{positive}
 use lib.ListN.{length, length-map}
@@ -37,10 +36,10 @@ goes-kept c rows used running next e = either (areOrdered (scoresOf (c .options 
 pub round-kept : (c : Call) (f : Finding) (rows : List Row) (used : ℕ) (running : List Row) (next : Start)
     → endsOr f rows used (selected (c .options) rows used running) ≡ goesOn next → next .kept ≡ map stateOf (chosenOf (c .options) running .kept)
 round-kept c Nothing rows used running next e = goes-kept c rows used running next e
-round-kept c (Found bug i pc) rows used running next e = let z : _≡_ {A = ℕ} 0 1 = cc in absurd (omega arith)
-round-kept c (Failed error i pc) rows used running next e = let z : _≡_ {A = ℕ} 0 1 = cc in absurd (omega arith)
-round-kept c TapeShort rows used running next e = let z : _≡_ {A = ℕ} 0 1 = cc in absurd (omega arith)
-round-kept c ScoresUnordered rows used running next e = let z : _≡_ {A = ℕ} 0 1 = cc in absurd (omega arith)
+round-kept c (Found bug i pc) rows used running next e = cc
+round-kept c (Failed error i pc) rows used running next e = cc
+round-kept c TapeShort rows used running next e = cc
+round-kept c ScoresUnordered rows used running next e = cc
 
 -- ---- the rows of a choice
 states : (m : MeanType) (all rows : List Row) → map stateOf (map (rankedAmong m all) rows) ≡ rows

@@ -8,13 +8,13 @@ use native.Mathlib.Omega.{arith}
 use lib.Ieee.{Float, nan}
 use lib.ListN.{length, getD, set, take, drop, replicate, drop-of-length-le, length-set}
 use lib.Seq.{take-suc, take-suc-set, take-all, drop-cons}
+use Rattle.laws.proofs.Fronts.{front-alike}
 use Rattle.rows.specs.Limits.{mostRows}
 use Rattle.rows.specs.Rows.{row}
 use Rattle.rows.specs.Valid.{validRow}
 use Rattle.store.specs.declared.layout.Layout.{Layout}
 use Rattle.store.specs.Store.{Fit, rowsOf}
 use Rattle.store.proofs.Rows.{lent, lent-row, length-rows}
-use Rattle.store.proofs.Fronts.{front-alike}
 use Rattle.means.specs.declared.MeanType.{MeanType}
 use Rattle.rarity.specs.Scores.{scoresOf, flaggedScores, areOrdered}
 use Rattle.rarity.proofs.Among.{all-taking}

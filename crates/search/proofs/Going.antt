@@ -40,7 +40,7 @@ unfolding roundWithFilling
 filled-goes c s next = by (tapeShort c s)
   where
     by : (b : Bool) → cond b (ends TapeShort (stored (c .store) (s .kept)) (s .used)) (roundOf c s .after) ≡ goesOn next → roundOf c s .after ≡ goesOn next
-    by true e = let z : _≡_ {A = ℕ} 0 1 = cc in absurd (omega arith)
+    by true e = cc
     by false e = e
 
 -- a search of n rounds before its round i, in a lent store

@@ -7,6 +7,7 @@ use native.Mathlib.Omega.{arith}
 use lib.Dec.{ltb}
 use lib.ListN.{length}
 use borrow.Author.Tests.{ltb-false}
+use Rattle.laws.proofs.Choices.{neither}
 use Rattle.sheet.specs.Sheets.{fieldsOf, withDefaults, sheetOf, aboveLimit, partPast, fieldsParsed, parsed}
 use Rattle.sheet.specs.Parts.{PartsWithin}
 use Rattle.sheet.specs.declared.fields.Fields.{Fields}
@@ -16,7 +17,6 @@ use Rattle.sheet.specs.declared.parse.SheetError.{SheetError}
 use Rattle.sheet.specs.declared.parse.SheetError.the-variants.{SheetLength, PartPastEnd, UnknownMean, AboveLimit}
 use Rattle.sheet.specs.declared.parse.Parsed.{Parsed}
 use Rattle.sheet.specs.declared.parse.Parsed.the-variants.{Refused, Accepted}
-use Rattle.sheet.proofs.Tests.{neither}
 
 -- the numbers of a sheet are within their limits
 pub record Fitting (l : Limits) (h : Sheet) : Type 0 where

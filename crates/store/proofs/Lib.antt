@@ -1,4 +1,3 @@
 pub mod Rows
 pub mod Moves
 pub mod Lent
-pub mod Fronts

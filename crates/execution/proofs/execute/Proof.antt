@@ -1,7 +1,7 @@
 use borrow.Author.Needs.{needs}
+use Rattle.laws.proofs.Parts.{to-end}
 use Rattle.effects.proofs.Reach.{in-reach}
 use Rattle.execution.specs.Execution.{effectIn}
-use Rattle.rows.proofs.Parts.{to-end}
 use Rattle.execution.proofs.execute.Statement.{statement}
 use Rattle.execution.proofs.execute.Tie as tie
 

@@ -3,9 +3,9 @@ use mathlib.Core.List.{List}
 use Prim.Native.Nat.{ℕ, _*_}
 use borrow.Author.Needs.{needs}
 use native.Mathlib.Omega.{arith}
+use Rattle.laws.proofs.Fronts.{front-length, front-part}
 use Rattle.report.proofs.Zeros.{zeros}
 use Rattle.store.specs.Store.{rowsOf}
-use Rattle.store.proofs.Fronts.{front-length, front-part}
 use Rattle.report.specs.Printing.{answerLines}
 use Rattle.report.proofs.Stores.{mostWords, memory-few, log-few, words-few, marks-few, words-lent, marks-lent, search-printed}
 use Rattle.report.proofs.Texts.{printed-as}

@@ -7,8 +7,8 @@ use borrow.Author.Tests.{not-true, not-false}
 use borrow.Rule.Slice.PartMut.{putMid}
 use lib.Ieee.{Float, binary64, ofBits}
 use lib.ListN.{length, take, drop, replicate}
+use Rattle.laws.proofs.Fronts.{front-length, front-part}
 use Rattle.store.specs.Store.{rowsOf}
-use Rattle.store.proofs.Fronts.{front-length, front-part}
 use Rattle.rarity.specs.Scores.{scoresOf}
 use Rattle.scoring.specs.Entry.{scoresLeft}
 use Rattle.scoring.proofs.Turns.{all-scored, ordered, unordered}

@@ -1,9 +1,9 @@
 use mathlib.Core.Path.{ap, _∙_}
 use mathlib.Core.List.{List}
 use Prim.Native.Nat.{ℕ}
+use Rattle.laws.proofs.Fronts.{front-length, front-part}
 use Rattle.report.proofs.Zeros.{zeros}
 use Rattle.search.specs.Entry.{searchEntry}
-use Rattle.store.proofs.Fronts.{front-length, front-part}
 use Rattle.report.proofs.Tapes.{mostTape, tape-few, tape-start, tape-room, tape-read}
 use native.Mathlib.Omega.{arith}
 use Rattle.sheet.specs.Sheets.{benchLimits, imageOf}

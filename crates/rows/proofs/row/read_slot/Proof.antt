@@ -1,5 +1,5 @@
 use borrow.Author.Needs.{needs}
-use Rattle.rows.proofs.Parts.{to-end}
+use Rattle.laws.proofs.Parts.{to-end}
 use Rattle.rows.proofs.row.read_slot.Statement.{statement}
 use Rattle.rows.proofs.row.read_slot.Tie as tie
 

@@ -2,7 +2,7 @@ use mathlib.Core.Path.{sym}
 use Prim.Native.Nat.{_+_, _-_}
 use native.Mathlib.Omega.{arith}
 use borrow.Author.Tests.{lt-ltb}
-use Rattle.sheet.proofs.Tests.{same-test}
+use Rattle.laws.proofs.Choices.{same-test}
 use Rattle.sheet.proofs.parse.past.Statement.{statement}
 use Rattle.sheet.proofs.parse.past.Tie as tie
 
