@@ -1,4 +1,4 @@
--- A text written at a place of a lent output. For the parts of a line, each of which starts where the one before it ended.
+-- A stepping stone between contracts: a text written at a place of a lent output. For the parts of a line, each of which starts where the one before it ended.
 use mathlib.Core.Path.{_≡_}
 use mathlib.Core.List.{List, _++_}
 use Prim.Native.Nat.{ℕ, _+_, _≤_}

@@ -1,4 +1,4 @@
--- A list of counters taken in one after the other: what is kept of it, and the mean from that.
+-- A stepping stone between contracts: a list of counters taken in one after the other: what is kept of it, and the mean from that.
 use mathlib.Core.List.{List}
 use Prim.Native.Nat.{ℕ, _+_, _*_, _≤_}
 use lib.Ieee.{Float, binary64, add, div}

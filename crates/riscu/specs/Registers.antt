@@ -1,4 +1,4 @@
--- Every register that an instruction names is one of the 32: what the layers above ask of an instruction.
+-- A stepping stone between contracts: every register that an instruction names is one of the 32, as the layers above ask of an instruction.
 use Prim.Native.Nat.{ℕ, _<_}
 use Rattle.riscu.specs.declared.instruction.RType.{RType}
 use Rattle.riscu.specs.declared.instruction.IType.{IType}

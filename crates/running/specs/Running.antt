@@ -1,4 +1,4 @@
--- What running all rows needs and answers.
+-- A stepping stone between contracts: what running all rows needs, and its answer from the definitions of rounds/specs.
 use mathlib.Core.List.{List}
 use Prim.Native.Nat.{ℕ, _+_, _<_, _^_}
 use lib.ListN.{length}

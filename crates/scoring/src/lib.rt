@@ -114,7 +114,8 @@ fn score_store(
     mean: MeanType,
     scores: &mut [f64],
 ) -> ScoringAnswer
-    requires { ⌜ Fit store (now words) (now marks) ⌝ ∗ ⌜ length (now scores) ≡ store .rows ⌝ }
+    requires { ⌜ Fit store (now words) (now marks) ⌝ }
+    requires { ⌜ length (now scores) ≡ store .rows ⌝ }
     ensures { λ r. ⌜ r ≡ orderedAnswer (areOrdered (scoresOf mean (rowsOf store (now (words .entry)) (now (marks .entry))))) ⌝ }
     ensures { λ r. ⌜ now (scores .exit) ≡ scoresLeft r (scoresOf mean (rowsOf store (now (words .entry)) (now (marks .entry)))) (now (scores .entry)) ⌝ }
 {
