@@ -13,13 +13,26 @@ Inv-loop words₀ marks₀ call code «data» tape rounds start₀ i₀ words ma
 abbrev μ-loop : tie.MeasureT-loop
 μ-loop words₀ marks₀ call code «data» tape rounds start₀ i₀ words marks start i = rounds - i
 
+-- ---- the places that the answers look back to, each by its way from the next one
+abbrev Turn : Type 0
+Turn = tie.In-loop Inv-loop μ-loop
+
+abbrev entry : Turn → tie.Start Inv-loop μ-loop
+entry w = w .before .before .before .before .before .before .before
+
+abbrev turn : Turn → tie.At-loop Inv-loop μ-loop
+turn w = w .before
+
+abbrev began : tie.After-round Inv-loop μ-loop → Turn
+began r = r .before .before .before
+
 loop-holds : tie.Need-loop-holds Inv-loop μ-loop
 loop-holds c = begins _ _ _ _ (c .before .before .before .before .before .pre .0)
 
 round-requires : tie.Need-round-requires Inv-loop μ-loop
 round-requires c κs =
-    let going = c .before .before .before .loop .inv in
-    (going .holding, (c .before .before .before .before .before .before .before .before .before .pre .1, going-limits going (c .before .before .loop-test .taken) (omega arith) (omega arith)))
+    let going = turn (c .before .before) .loop .inv in
+    (going .holding, (entry (c .before .before) .pre .1, going-limits going (c .before .before .loop-test .taken) (omega arith) (omega arith)))
 
 enum-known-after : tie.Need-enum-known-after Inv-loop μ-loop
 enum-known-after c = search needs
@@ -28,24 +41,25 @@ enum-known-after-2 : tie.Need-enum-known-after-2 Inv-loop μ-loop
 enum-known-after-2 c = search needs
 
 same-length : tie.Need-same-length Inv-loop μ-loop
-same-length c = c .before .before .before .before .before .before .before .round .kept .0 ∙ c .before .before .before .before .before .before .before .before .before .before .before .loop .inv .holding .fit .all-words ∙ sym (c .before .before .before .before .before .before .before .before .before .before .before .before .before .before .before .before .before .pre .0 .fit .all-words)
+same-length c = c .before .before .before .before .before .before .before .round .kept .0 ∙ turn (began (c .before .before .before .before .before .before .before)) .loop .inv .holding .fit .all-words ∙ sym (entry (began (c .before .before .before .before .before .before .before)) .pre .0 .fit .all-words)
 
 same-length-2 : tie.Need-same-length-2 Inv-loop μ-loop
-same-length-2 c = c .before .before .before .before .before .before .before .round .kept .1 .0 ∙ c .before .before .before .before .before .before .before .before .before .before .before .loop .inv .holding .fit .all-marks ∙ sym (c .before .before .before .before .before .before .before .before .before .before .before .before .before .before .before .before .before .pre .0 .fit .all-marks)
+same-length-2 c = c .before .before .before .before .before .before .before .round .kept .1 .0 ∙ turn (began (c .before .before .before .before .before .before .before)) .loop .inv .holding .fit .all-marks ∙ sym (entry (began (c .before .before .before .before .before .before .before)) .pre .0 .fit .all-marks)
 
 returns : tie.Need-returns Inv-loop μ-loop
-returns c = ends-with (c .before .before .before .before .before .before .before .before .before .before .before .loop .inv) (c .before .before .before .before .before .before .before .before .before .before .loop-test .taken) _ _ _ _ (rw (c .before .after2 .given .1) at (c .before .before .before .before .before .before .before .round .ensures .0))
+returns c = ends-with (turn (began (c .before .before .before .before .before .before .before)) .loop .inv) (began (c .before .before .before .before .before .before .before) .loop-test .taken) _ _ _ _ (rw (c .before .after2 .given .1) at (c .before .before .before .before .before .before .before .round .ensures .0))
 
 add-i : tie.Need-add-i Inv-loop μ-loop
-add-i c = omega (arith, c .before .before .before .before .before .before .before .before .before .before .loop-test .taken, c .before .before .before .before .before .before .before .before .before .before .before .before .before .before .before .before .before .good)
+add-i c = let w = began (c .before .before .before .before .before .before .before) in omega (arith, w .loop-test .taken, entry w .good)
 
 loop-less : tie.Need-loop-less Inv-loop μ-loop
-loop-less c = omega (arith, c .before .before .before .before .before .before .before .before .before .before .loop-test .taken)
+loop-less c = omega (arith, began (c .before .before .before .before .before .before .before) .loop-test .taken)
 
 loop-again : tie.Need-loop-again Inv-loop μ-loop
 loop-again c =
     let is = c .before .after .given .1 in
-    goes-on (c .before .before .before .before .before .before .before .before .before .before .before .loop .inv) (c .before .before .before .before .before .before .before .before .before .before .loop-test .taken) _ _ _ (rw is at (c .before .before .before .before .before .before .before .round .ensures .0)) (rw is at (c .before .before .before .before .before .before .before .round .ensures .1))
+    let w = began (c .before .before .before .before .before .before .before) in
+    goes-on (turn w .loop .inv) (w .loop-test .taken) _ _ _ (rw is at (c .before .before .before .before .before .before .before .round .ensures .0)) (rw is at (c .before .before .before .before .before .before .before .round .ensures .1))
 
 same-length-3 : tie.Need-same-length-3 Inv-loop μ-loop
 same-length-3 c = c .before .loop .inv .holding .fit .all-words ∙ sym (c .before .before .before .before .before .before .before .pre .0 .fit .all-words)
