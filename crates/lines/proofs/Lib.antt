@@ -1,3 +1,2 @@
-pub mod Writing
 pub mod Digits
 pub mod Inputs

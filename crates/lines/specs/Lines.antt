@@ -4,7 +4,6 @@ use mathlib.Core.Bool.{cond}
 use mathlib.Core.List.{List, [], _∷_, _++_}
 use Prim.Native.Nat.{ℕ, zero, suc, _+_, _/_, _%_}
 use lib.Dec.{ltb}
-use lib.ListN.{length, drop}
 use Rattle.answers.specs.declared.answer.Answer.{Answer}
 
 -- the decimal digits of n, at most k of them; 48 is "0"
@@ -61,7 +60,3 @@ inputLines (i ∷ inputs) = numberLine inputLabel i ++ inputLines inputs
 -- all lines of an answer, of the inputs that are told, and of the tape words used
 unfoldable pub lines : Answer → List ℕ → List ℕ
 lines a inputs = answerLine a ++ (inputLines inputs ++ numberLine usedLabel (a .used))
-
--- a lent output with a text at its front, if it has the room; what follows the text stays
-abbrev pub written : List ℕ → List ℕ → List ℕ
-written text out = text ++ drop (length text) out

@@ -2,12 +2,13 @@
 ghost use mathlib.Core.Path.{_≡_};
 ghost use Prim.Native.Nat.{_+_, _*_, _≤_};
 ghost use lib.ListN.{length};
-ghost use Rattle.lines.specs.Lines.{lines, written, answerLine, inputLabel, numberLine, inputLines};
-ghost use Rattle.lines.specs.Writing.{Wrote};
+ghost use Rattle.lines.specs.Lines.{lines, answerLine, inputLabel, numberLine, inputLines};
+ghost use Rattle.writing.specs.Writing.{Wrote};
+ghost use Rattle.writing.specs.Written.{written};
 use answers::answer::Answer;
-use put::put;
 use put::put_labelled;
 use put::put_line;
+use writing::put;
 
 mod put;
 

@@ -1,20 +1,9 @@
-// Texts and numbers, written at a place of a lent output; each function answers the place after what it wrote.
+// Numbers and labels, written at a place of a lent output; each function answers the place after what it wrote.
 ghost use Prim.Native.Nat.{_+_, _≤_};
 ghost use lib.ListN.{length};
 ghost use Rattle.lines.specs.Lines.{decimal, labelled, numberLine};
-ghost use Rattle.lines.specs.Writing.{Wrote};
-
-pub(crate) fn put(out: &mut [u8], at: usize, text: &[u8]) -> usize
-    requires { ⌜ at + length (now text) ≤ length (now out) ⌝ }
-    ensures { λ r. ⌜ Wrote (now (out .entry)) at (now (text .entry)) r (now (out .exit)) ⌝ }
-{
-    let mut i = 0;
-    while i < text.len() {
-        out[at + i] = text[i];
-        i += 1;
-    }
-    at + i
-}
+ghost use Rattle.writing.specs.Writing.{Wrote};
+use writing::put;
 
 fn put_decimal(out: &mut [u8], at: usize, n: u64) -> usize
     requires { ⌜ at + 20 ≤ length (now out) ⌝ }

@@ -6,7 +6,8 @@ use lib.ListN.{length, take, drop}
 use Rattle.rows.specs.Rows.{Row, header}
 use Rattle.store.specs.Store.{rowsOf, rowAt}
 use Rattle.store.specs.declared.layout.Layout.{Layout}
-use Rattle.lines.specs.Lines.{lines, written}
+use Rattle.writing.specs.Written.{written}
+use Rattle.lines.specs.Lines.{lines}
 use Rattle.search.specs.Entry.{searchAnswer}
 use Rattle.search.specs.declared.answer.SearchAnswer.{SearchAnswer}
 use Rattle.sheet.specs.Sheets.{benchLimits}

@@ -1,6 +1,6 @@
 use native.Mathlib.Omega.{arith}
 use Rattle.lines.specs.Lines.{answerLine}
-use Rattle.lines.proofs.Writing.{wrote-more}
+use Rattle.writing.proofs.Writing.{wrote-more}
 use borrow.Author.Needs.{needs}
 use Rattle.lines.proofs.put_answer.Statement.{statement}
 use Rattle.lines.proofs.put_answer.Tie as tie

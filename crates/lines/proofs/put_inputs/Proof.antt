@@ -8,8 +8,8 @@ use denote.Ref.{now}
 use lib.ListN.{length, take}
 use lib.Seq.{take-all}
 use Rattle.lines.specs.Lines.{inputLines}
-use Rattle.lines.specs.Writing.{Wrote}
-use Rattle.lines.proofs.Writing.{wrote-more, wrote-none}
+use Rattle.writing.specs.Writing.{Wrote}
+use Rattle.writing.proofs.Writing.{wrote-more, wrote-none}
 use Rattle.lines.proofs.Inputs.{inputs-more}
 use Rattle.lines.proofs.put_inputs.Statement.{statement}
 use Rattle.lines.proofs.put_inputs.Tie as tie

@@ -1,5 +1,5 @@
 use Rattle.lines.specs.Lines.{lines}
-use Rattle.lines.proofs.Writing.{wrote-more, wrote-front}
+use Rattle.writing.proofs.Writing.{wrote-more, wrote-front}
 use borrow.Author.Needs.{needs}
 use Rattle.lines.proofs.write_lines.Statement.{statement}
 use Rattle.lines.proofs.write_lines.Tie as tie

@@ -2,7 +2,7 @@ use mathlib.Core.Path.{_∙_, subst}
 use mathlib.Core.List.{List}
 use Prim.Native.Nat.{ℕ}
 use denote.Ref.{now}
-use Rattle.lines.specs.Writing.{Wrote}
+use Rattle.writing.specs.Writing.{Wrote}
 use Rattle.lines.proofs.Digits.{at-most-20, decimal-is}
 use native.Mathlib.Omega.{arith}
 use borrow.Author.Needs.{needs}

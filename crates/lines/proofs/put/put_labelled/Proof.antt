@@ -1,5 +1,5 @@
 use native.Mathlib.Omega.{arith}
-use Rattle.lines.proofs.Writing.{wrote-more}
+use Rattle.writing.proofs.Writing.{wrote-more}
 use borrow.Author.Needs.{needs}
 use Rattle.lines.proofs.put.put_labelled.Statement.{statement}
 use Rattle.lines.proofs.put.put_labelled.Tie as tie

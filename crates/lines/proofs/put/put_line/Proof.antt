@@ -1,5 +1,5 @@
 use native.Mathlib.Omega.{arith}
-use Rattle.lines.proofs.Writing.{wrote-more}
+use Rattle.writing.proofs.Writing.{wrote-more}
 use borrow.Author.Needs.{needs}
 use Rattle.lines.proofs.put.put_line.Statement.{statement}
 use Rattle.lines.proofs.put.put_line.Tie as tie

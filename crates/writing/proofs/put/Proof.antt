@@ -8,9 +8,9 @@ use borrow.Author.Needs.{needs}
 use denote.Ref.{now}
 use lib.ListN.{length, getD, set}
 use lib.Seq.{paste, paste-zero, paste-suc}
-use Rattle.lines.proofs.Writing.{paste-whole}
-use Rattle.lines.proofs.put.put.Statement.{statement}
-use Rattle.lines.proofs.put.put.Tie as tie
+use Rattle.writing.proofs.Writing.{paste-whole}
+use Rattle.writing.proofs.put.Statement.{statement}
+use Rattle.writing.proofs.put.Tie as tie
 
 abbrev Inv-loop : tie.InvT-loop
 Inv-loop out₀ at text i₀ out i = (out ≡ paste out₀ at text i) × (i ≤ length text) × (length out ≡ length out₀)

@@ -6,8 +6,8 @@ use native.Mathlib.Nat.{zero-add, add-assoc}
 use native.Mathlib.Omega.{arith}
 use lib.ListN.{length, take, drop, length-append, length-drop}
 use lib.Seq.{length-take-le, take-at, drop-at, drop-drop, paste, paste-zero, take-length}
-use Rattle.lines.specs.Lines.{written}
-use Rattle.lines.specs.Writing.{writtenAt, Wrote}
+use Rattle.writing.specs.Written.{written}
+use Rattle.writing.specs.Writing.{writtenAt, Wrote}
 
 -- a text after a text is one text
 written-more : (o : List ℕ) (at : ℕ) (t u : List ℕ) → at + length t ≤ length o
