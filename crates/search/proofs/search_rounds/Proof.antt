@@ -1,7 +1,8 @@
-use mathlib.Core.Path.{sym, _∙_}
+use mathlib.Core.Path.{_≡_, sym, _∙_}
 use Prim.Native.Nat.{_-_}
 use native.Mathlib.Omega.{arith}
 use borrow.Author.Needs.{needs}
+use lib.ListN.{length}
 use Rattle.rounds.specs.Handed.{callOf}
 use Rattle.search.proofs.Going.{Going, begins, going-limits, goes-on, ends-with, done}
 use Rattle.search.proofs.search_rounds.Statement.{statement}
@@ -26,6 +27,13 @@ turn w = w .before
 abbrev began : tie.After-round Inv-loop μ-loop → Turn
 began r = r .before .before .before
 
+-- a round keeps both lengths
+words-kept : (r : tie.After-round Inv-loop μ-loop) → length (r .round .last .0) ≡ length (entry (began r) .args .words .now)
+words-kept r = r .round .kept .0 ∙ turn (began r) .loop .inv .holding .fit .all-words ∙ sym (entry (began r) .pre .0 .fit .all-words)
+
+marks-kept : (r : tie.After-round Inv-loop μ-loop) → length (r .round .last .1 .0) ≡ length (entry (began r) .args .marks .now)
+marks-kept r = r .round .kept .1 .0 ∙ turn (began r) .loop .inv .holding .fit .all-marks ∙ sym (entry (began r) .pre .0 .fit .all-marks)
+
 loop-holds : tie.Need-loop-holds Inv-loop μ-loop
 loop-holds c = begins _ _ _ _ (c .before .before .before .before .before .pre .0)
 
@@ -41,10 +49,10 @@ enum-known-after-2 : tie.Need-enum-known-after-2 Inv-loop μ-loop
 enum-known-after-2 c = search needs
 
 same-length : tie.Need-same-length Inv-loop μ-loop
-same-length c = c .before .before .before .before .before .before .before .round .kept .0 ∙ turn (began (c .before .before .before .before .before .before .before)) .loop .inv .holding .fit .all-words ∙ sym (entry (began (c .before .before .before .before .before .before .before)) .pre .0 .fit .all-words)
+same-length c = words-kept (c .before .before .before .before .before .before .before)
 
 same-length-2 : tie.Need-same-length-2 Inv-loop μ-loop
-same-length-2 c = c .before .before .before .before .before .before .before .round .kept .1 .0 ∙ turn (began (c .before .before .before .before .before .before .before)) .loop .inv .holding .fit .all-marks ∙ sym (entry (began (c .before .before .before .before .before .before .before)) .pre .0 .fit .all-marks)
+same-length-2 c = marks-kept (c .before .before .before .before .before .before .before)
 
 returns : tie.Need-returns Inv-loop μ-loop
 returns c = ends-with (turn (began (c .before .before .before .before .before .before .before)) .loop .inv) (began (c .before .before .before .before .before .before .before) .loop-test .taken) _ _ _ _ (rw (c .before .after2 .given .1) at (c .before .before .before .before .before .before .before .round .ensures .0))
