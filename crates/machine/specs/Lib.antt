@@ -1,2 +1,5 @@
 pub mod Steps
 pub mod Runs
+pub mod Pauses
+pub mod Handing
+pub mod HandedOut
