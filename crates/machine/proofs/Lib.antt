@@ -3,3 +3,4 @@ pub mod Kept
 pub mod Turns
 pub mod Handing
 pub mod HandedOut
+pub mod Bytes
