@@ -1,6 +1,7 @@
 // Tavvinur for hosts in C and Rust: the proved entries as flat functions. Nothing is asked of the caller but that slices are what they say.
 ghost use mathlib.Core.Path.{_≡_};
 ghost use Prim.Native.Nat.{_≤_};
+ghost use lib.ListN.{length};
 ghost use Rattle.rows.specs.Rows.{row};
 ghost use Rattle.loader.specs.Loading.{image};
 ghost use Rattle.checks.specs.Refusals.{checkedNumber};
@@ -11,6 +12,7 @@ ghost use Rattle.tavvinur.specs.Flat.{optionsOf, flatOf};
 ghost use Rattle.scoring.specs.Entry.{ScoresBounded};
 ghost use Rattle.search.specs.Entry.{Demanded};
 ghost use Rattle.tavvinur.specs.Flat.{left, creationLeft, runLeft, searchLeft, scoresWith, scoreLeft, AlwaysScored};
+ghost use Rattle.tavvinur.specs.Printing.{printedLeft, programLeft, OneRun};
 use answers::answer::Answer;
 use options::RaritySimulationOptions;
 use options::mean_number;
@@ -26,6 +28,16 @@ pub struct Options {
     pub iterations: u32,
     pub mean: u32,
     pub copy_init_ratio: f64,
+}
+
+// What the run of a label program answers: number, pc, value and the input words taken as in an answer, and the bytes of the output that were written.
+#[repr(C)]
+pub struct Printed {
+    pub number: u64,
+    pub pc: u64,
+    pub value: u64,
+    pub used: u64,
+    pub written: u64,
 }
 
 const MOST_MEAN: u32 = 1;
@@ -109,6 +121,53 @@ pub extern "C" fn tavvinur_run(
 {
     let ran = executor::run(words, marks, memory, log, step, tape);
     ran.answer()
+}
+
+// Loads a label program into a lent row and runs it for at most `step` instructions, one word of the keyed order to each draw. What it writes
+// goes to the front of the lent output.
+#[no_mangle]
+pub extern "C" fn tavvinur_run_program(
+    words: &mut [u64],
+    marks: &mut [u8],
+    memory: u64,
+    log: u64,
+    step: u32,
+    code_address: u64,
+    code: &[u8],
+    data_address: u64,
+    data: &[u8],
+    input: &[u64],
+    output: &mut [u8],
+) -> Printed
+    ensures { λ r. ⌜ printedLeft (now (words .exit)) (now (marks .exit)) (now (output .exit)) r
+        ≡ programLeft memory log step (image «code_address» (now (code .entry)) «data_address» (now («data» .entry)))
+        (now (input .entry)) (now (words .entry)) (now (marks .entry)) (now (output .entry)) ⌝ }
+    ensures { λ r. ⌜ OneRun memory log step (image «code_address» (now (code .entry)) «data_address» (now («data» .entry)))
+        (now (input .entry)) (now (words .entry)) (now (marks .entry)) (now (words .exit)) (now (marks .exit)) r ⌝ }
+    ensures { λ r. ⌜ r .written ≤ length (now (output .entry)) ⌝ }
+{
+    let printed = runner::run_program(
+        words,
+        marks,
+        memory,
+        log,
+        step,
+        code_address,
+        code,
+        data_address,
+        data,
+        input,
+        output,
+    );
+    let answered = printed.answer;
+    let answer = answered.answer();
+    Printed {
+        number: answer.number,
+        pc: answer.pc,
+        value: answer.value,
+        used: answer.used,
+        written: printed.written as u64,
+    }
 }
 
 // Scores the rows of a lent store among themselves, one score a row; 0, or the number that tells why not.
