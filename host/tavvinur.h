@@ -1,6 +1,7 @@
-/* Tavvinur for C: the rarity search over RISC-U programs, and one executor by itself. Link target/staticlib/libtavvinur.a.
+/* Tavvinur for C: the rarity search over RISC-U programs, a label program at the counter, and one executor by itself. Link
+ * target/staticlib/libtavvinur.a.
  *
- * Every function is proved to equal its definition (crates/tavvinur/specs/Flat.antt, docs/HOSTS.md), on refused calls too: a refused
+ * Every function is proved to equal its definition (crates/tavvinur/specs, docs/HOSTS.md), on refused calls too: a refused
  * call changes nothing of what is lent. Numbers and lengths may be any: the functions check them. The caller answers only for this:
  *  - a pointer is aligned for its type, is not null, and points to as many elements as its length says (all of them initialised;
  *    an empty slice may point to anything that is not null and is aligned);
@@ -11,7 +12,7 @@
  *    so that a search may keep other rows.
  * All memory is the caller's. The library allocates nothing, keeps no pointer and no state between calls, writes only what is lent
  * without const, and calls nothing but memcpy and memset. Calls on different memory may run at once. A search takes 140 KiB of
- * stack, a scoring 40 KiB, a run 3 KiB, the others less than 1 KiB.
+ * stack, a scoring 40 KiB, a run 3 KiB, of a program or of a row, the others less than 1 KiB.
  *
  * A row, with W = memory / 8: 37 + W + log words and 32 + W marks.
  *   words: pc, break, depth, limit, log count, 32 registers, W memory words, log words
@@ -19,7 +20,7 @@
  * A store of n rows has exactly n times as many words and marks, row after row.
  *
  * Numbers of answers (docs/NUMBERS.md has all numbers, those of sheets too):
- *   0  run: ended by exit with 0; search: nothing found; new_executor, score: done
+ *   0  run, run_program: ended by exit with 0; search: nothing found; new_executor, score: done
  *   1  memory is no multiple of 1024 from 1024 to 1048576        5  lent lengths are not exact
  *   2  states or rows are not from 1 to 4096                     6  a length of code or data is no multiple of 8
  *   3  the ratio is not from 0 to 1                              7  code or data ends past memory
@@ -28,6 +29,7 @@
  *   8  search: fewer tape words left than copies to make        20  not supported; the value is the reason, 1 to 13
  *  21  no instruction                                           22  run: the limit is reached, and the row can be run on
  *  23  pc past memory        24  tape empty        25  log full  31  scores cannot be ordered
+ *  71  run_program: a write call needs more output than is left; none of its bytes is copied
  *  41  division by zero      42  uninitialised use; value 1: an operand, 2: a write call
  *  43  unaligned address, which is the value     44  address out of range     45  exit with the value, above 0
  */
@@ -62,6 +64,15 @@ typedef struct {
     uint64_t used;  /* tape words taken */
 } tavvinur_answer;
 
+/* The same of a program that was run at the counter. */
+typedef struct {
+    uint64_t number;
+    uint64_t pc;
+    uint64_t value;
+    uint64_t used;    /* input words taken */
+    uint64_t written; /* bytes at the front of the output */
+} tavvinur_printed;
+
 /* 3000 states of 1 MiB, 1000 instructions, 50 kept, 20 rounds, ratio 0.6, harmonic. */
 tavvinur_options tavvinur_default_options(void);
 
@@ -75,6 +86,15 @@ uint64_t tavvinur_new_executor(
 tavvinur_answer tavvinur_run(
     uint64_t *words, size_t words_length, uint8_t *marks, size_t marks_length, uint64_t memory, uint64_t log, uint32_t step,
     const uint64_t *tape, size_t tape_length);
+
+/* Loads a label program into a lent row, whatever the row held, and runs it to its end or for at most step instructions. Refused by 1, 4,
+ * 5, 6, 7, as a new executor. Each draw of a read call takes one input word; a log of as many words as the input is never full (25).
+ * A write call copies its bytes to the output, behind those of the writes before it; the other bytes of the output are untouched.
+ * Unless the answer is 71, row, number, pc, value and used are those of tavvinur_new_executor and one tavvinur_run. */
+tavvinur_printed tavvinur_run_program(
+    uint64_t *words, size_t words_length, uint8_t *marks, size_t marks_length, uint64_t memory, uint64_t log, uint32_t step,
+    uint64_t code_address, const uint8_t *code, size_t code_length, uint64_t data_address, const uint8_t *data, size_t data_length,
+    const uint64_t *input, size_t input_length, uint8_t *output, size_t output_length);
 
 /* Scores the rows of a store among themselves, one score a row, the lowest being the rarest. Answers 0, or 53, 1, 2, 4, 5, 9, 31;
  * scores are written only at 0. */

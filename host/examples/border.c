@@ -1,6 +1,6 @@
 /* Looks at every place of the border to C: each field of the options and of an answer, and each argument. All have values of their
  * own, so that two that are exchanged, in the header or in the library, are seen. What is expected was worked out without the library:
- * the search by the oracle, the run and the scores by tools/model.py. */
+ * the search by the oracle, the runs and the scores by tools/model.py. */
 #undef NDEBUG
 #include <assert.h>
 #include <stdio.h>
@@ -8,6 +8,7 @@
 
 #include "../tavvinur.h"
 #include "scale.h"
+#include "slip.h"
 
 enum { MEMORY = 1024, LOG = 24, STATES = 7, STEP = 25, TAPE = 500, CODE_ADDRESS = 0x40, DATA_ADDRESS = 0x300 };
 enum { W = MEMORY / 8, WORDS = 37 + W + LOG, MARKS = 32 + W, ROWS = 3 };
@@ -147,6 +148,23 @@ static void look_at_runs(void)
     assert(is(tavvinur_run(third, WORDS, third_marks, MARKS, MEMORY, LOG, 10, tape + 20, TAPE - 20), 22, 0, 104, 0, 1));
 }
 
+/* The slip of two weights out of three; the output is longer than the slip. */
+static void look_at_program(void)
+{
+    uint8_t output[20], *weights = (uint8_t *)tape;
+    memset(output, 0xa5, sizeof output);
+    tavvinur_printed p = tavvinur_run_program(
+        words, WORDS, marks, MARKS, MEMORY, LOG, 100, CODE_ADDRESS, slip_code, sizeof slip_code, DATA_ADDRESS, slip_data, sizeof slip_data,
+        tape, 3, output, sizeof output);
+    assert(p.number == 45 && p.pc == 112 && p.value == 9 && p.used == 2 && p.written == 13);
+    assert(memcmp(output, weights + 3, 13) == 0);
+    for (size_t i = 13; i < sizeof output; i++)
+        assert(output[i] == 0xa5);
+    /* depth and limit */
+    assert(words[2] == 13 && words[3] == 100);
+    assert(tavvinur_row_input_count(words) == 2 && tavvinur_row_inputs(words, MEMORY)[1] == tape[1]);
+}
+
 static uint64_t bits_of(double score)
 {
     uint64_t bits;
@@ -176,6 +194,7 @@ int main(void)
         look_at_creation(r);
     look_at_runs();
     look_at_scores();
+    look_at_program();
     puts("border: every field and argument is where the header says");
     return 0;
 }

@@ -1,17 +1,18 @@
 //! Looks at every place of the border to Rust, as border.c at that to C: each field of the options and of an answer, and each argument.
 //! All have values of their own, so that two that are exchanged, in the module or in the library, are seen. What is expected was worked out
-//! without the library: the search by the oracle, the run and the scores by tools/model.py.
+//! without the library: the search by the oracle, the runs and the scores by tools/model.py.
 
 #[allow(dead_code)]
 #[path = "../rust/tavvinur.rs"]
 mod tavvinur;
 
 mod scale;
+mod slip;
 
 use std::{convert::TryInto, mem::swap};
 use tavvinur::{
-    inputs, new_executor, row_marks, row_words, run, score, search, Answer, Options, Program,
-    ARITHMETIC, HARMONIC,
+    inputs, new_executor, row_marks, row_words, run, run_program, score, search, Answer, Options,
+    Printed, Program, ARITHMETIC, HARMONIC,
 };
 
 const MEMORY: u64 = 1024;
@@ -28,6 +29,13 @@ const PROGRAM: Program = Program {
     code: &scale::SCALE_CODE,
     data_address: 0x300,
     data: &scale::SCALE_DATA,
+};
+
+const SLIP: Program = Program {
+    code_address: 0x40,
+    code: &slip::SLIP_CODE,
+    data_address: 0x300,
+    data: &slip::SLIP_DATA,
 };
 
 /// xorshift64*
@@ -154,6 +162,35 @@ fn look_at_scores(words: &[u64], marks: &[u8]) {
     assert_eq!(scored(HARMONIC), harmonic);
 }
 
+/// The slip of two weights out of three; the output is longer than the slip.
+fn look_at_program(words: &mut [u64], marks: &mut [u8], tape: &[u64]) {
+    let mut output = [0xa5; 20];
+    let printed = run_program(
+        words,
+        marks,
+        MEMORY,
+        LOG,
+        100,
+        &SLIP,
+        &tape[..3],
+        &mut output,
+    );
+    let expected = Printed {
+        number: 45,
+        pc: 112,
+        value: 9,
+        used: 2,
+        written: 13,
+    };
+    assert_eq!(printed, expected);
+    let weights: Vec<u8> = tape.iter().flat_map(|word| word.to_le_bytes()).collect();
+    assert_eq!(output[..13], weights[3..16]);
+    assert_eq!(output[13..], [0xa5; 7]);
+    // depth and limit
+    assert_eq!(words[2..4], [13, 100]);
+    assert_eq!(inputs(words, MEMORY, LOG, 0), &tape[..2]);
+}
+
 fn main() {
     let tape = tape();
     look_at_defaults();
@@ -165,5 +202,6 @@ fn main() {
     }
     look_at_runs(&mut words, &mut marks, &tape);
     look_at_scores(&words, &marks);
+    look_at_program(&mut words[..WORDS], &mut marks[..MARKS], &tape);
     println!("border: every field and argument is where the module says");
 }

@@ -8,7 +8,8 @@
 #include <string.h>
 
 #include "../tavvinur.h"
-#include "counter.h"
+#include "servings.h"
+#include "slip.h"
 
 enum { MEMORY = 1024, LOG = 4, W = MEMORY / 8, ROWS = 3, WORDS = 37 + W + LOG, MARKS = 32 + W, DATA = 0x300 };
 
@@ -51,7 +52,7 @@ static void is_refused(tavvinur_answer a, uint64_t number)
     assert(a.number == number && a.row == 0 && a.pc == 0 && a.value == 0 && a.used == 0);
 }
 
-/* A store of new executors of the counter's program. */
+/* A store of new executors of the printer's program. */
 static uint64_t rows_words[ROWS * WORDS];
 static uint8_t rows_marks[ROWS * MARKS];
 
@@ -59,8 +60,8 @@ static void make_rows(void)
 {
     for (size_t r = 0; r < ROWS; r++)
         assert(tavvinur_new_executor(
-                   rows_words + r * WORDS, WORDS, rows_marks + r * MARKS, MARKS, MEMORY, LOG, 0, counter_code, sizeof counter_code, DATA,
-                   counter_data, sizeof counter_data) == 0);
+                   rows_words + r * WORDS, WORDS, rows_marks + r * MARKS, MARKS, MEMORY, LOG, 0, servings_code, sizeof servings_code, DATA,
+                   servings_data, sizeof servings_data) == 0);
 }
 
 /* --- a new executor --- */
@@ -110,16 +111,60 @@ static void refuse_creations(void)
     }
 }
 
+/* --- a program at the counter: refused as a creation is --- */
+
+static void is_refused_program(tavvinur_printed p, uint64_t number)
+{
+    cases++;
+    assert(p.number == number && p.pc == 0 && p.value == 0 && p.used == 0 && p.written == 0);
+}
+
+static void refuse_programs(void)
+{
+    for (size_t i = 0; i < sizeof creations / sizeof *creations; i++) {
+        creation c = creations[i];
+        block words = lend(NULL, 8 * c.words), marks = lend(NULL, c.marks), output = lend(NULL, i);
+        block code = lend(NULL, c.code), data = lend(NULL, c.data), input = lend(NULL, 16);
+        tavvinur_printed p = tavvinur_run_program(
+            words.lent, c.words, marks.lent, c.marks, c.memory, c.log, 100, c.code_address, code.lent, c.code, c.data_address, data.lent,
+            c.data, input.lent, 2, output.lent, output.bytes);
+        is_refused_program(p, c.number);
+        is_kept(words), is_kept(marks), is_kept(output), is_kept(code), is_kept(data), is_kept(input);
+    }
+}
+
+/* A slip of 13 bytes: into no output, one byte too few, as many, one more. */
+static void accept_programs(void)
+{
+    static const size_t outputs[] = {0, 12, 13, 14};
+    for (size_t i = 0; i < sizeof outputs / sizeof *outputs; i++) {
+        size_t length = outputs[i];
+        int fits = length >= 13;
+        block words = lend(NULL, 8 * WORDS), marks = lend(NULL, MARKS), output = lend(NULL, length);
+        block input = lend(servings_code, 16), code = lend(slip_code, sizeof slip_code), data = lend(slip_data, sizeof slip_data);
+        tavvinur_printed p = tavvinur_run_program(
+            words.lent, WORDS, marks.lent, MARKS, MEMORY, LOG, UINT32_MAX, 0, code.lent, code.bytes, DATA, data.lent, data.bytes,
+            input.lent, 2, output.lent, length);
+        assert(p.number == (fits ? 45 : 71) && p.pc == (fits ? 48 : 36) && p.value == (fits ? 9 : 0) && p.used == 2);
+        assert(p.written == (fits ? 13 : 0));
+        if (fits)
+            memcpy(output.copy, servings_code + 3, 13);
+        is_kept(output), is_kept(input), is_kept(code), is_kept(data);
+        drop(words), drop(marks);
+        cases++;
+    }
+}
+
 static void accept_creation(void)
 {
-    block words = lend(NULL, 8 * WORDS), marks = lend(NULL, MARKS), code = lend(NULL, 0), data = lend(counter_data, 8);
+    block words = lend(NULL, 8 * WORDS), marks = lend(NULL, MARKS), code = lend(NULL, 0), data = lend(servings_data, 8);
     /* an empty segment may stand anywhere */
     assert(tavvinur_new_executor(words.lent, WORDS, marks.lent, MARKS, MEMORY, LOG, UINT64_MAX, code.lent, 0, MEMORY - 8, data.lent, 8) == 0);
     uint64_t *w = words.lent;
     uint8_t *m = marks.lent;
     assert(w[0] == UINT64_MAX && w[1] == MEMORY && w[2] == 0 && w[3] == 0 && w[4] == 0);
     assert(w[5] == 0 && m[0] == 1 && w[5 + 2] == MEMORY - 8 && m[2] == 1);
-    assert(w[5 + 32 + W - 1] == counter_data[0] && m[32 + W - 1] == 1);
+    assert(w[5 + 32 + W - 1] == servings_data[0] && m[32 + W - 1] == 1);
     cases++;
     is_kept(code), is_kept(data);
     drop(words), drop(marks);
@@ -195,7 +240,7 @@ static void accept_runs(void)
     tavvinur_answer a = tavvinur_run(words.lent, WORDS, marks.lent, MARKS, MEMORY, LOG, 0, none.lent, 0);
     assert(a.number == 22 && a.pc == 0 && a.used == 0);
     a = tavvinur_run(words.lent, WORDS, marks.lent, MARKS, MEMORY, LOG, 100, none.lent, 0);
-    /* the counter's buffer lies past this small memory: 44 comes before the tape is asked */
+    /* the printer's buffer lies past this small memory: 44 comes before the tape is asked */
     assert(a.number == 44 && a.row == 0 && a.pc == 32 && a.used == 0);
     cases += 2;
     drop(words), drop(marks), drop(none);
@@ -305,7 +350,7 @@ static void refuse_searches(void)
 static void accept_search(void)
 {
     block words = lend(NULL, 8 * ROWS * WORDS), marks = lend(NULL, ROWS * MARKS);
-    block code = lend(counter_code, sizeof counter_code), data = lend(counter_data, sizeof counter_data), tape = lend(NULL, 0);
+    block code = lend(servings_code, sizeof servings_code), data = lend(servings_data, sizeof servings_data), tape = lend(NULL, 0);
     tavvinur_options o = with_ratio(-0.0);
     tavvinur_answer a = tavvinur_search(
         words.lent, ROWS * WORDS, marks.lent, ROWS * MARKS, o, LOG, 0, code.lent, code.bytes, DATA, data.lent, data.bytes, tape.lent, 0);
@@ -339,6 +384,8 @@ int main(void)
     make_rows();
     refuse_creations();
     accept_creation();
+    refuse_programs();
+    accept_programs();
     refuse_runs();
     accept_runs();
     refuse_scores();

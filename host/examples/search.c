@@ -1,4 +1,4 @@
-/* Searches the counter's program (counter.s) in 300 states of 64 KiB, or as many as its argument says. A search has no callback, so
+/* Searches the printer's program (servings.s) in 300 states of 64 KiB, or as many as its argument says. A search has no callback, so
  * progress comes from searches of growing rounds on the same tape: each goes through the rounds of the one before and then on, and
  * a line tells what it came to. */
 #include <inttypes.h>
@@ -6,7 +6,7 @@
 #include <stdlib.h>
 
 #include "../tavvinur.h"
-#include "counter.h"
+#include "servings.h"
 
 enum { MEMORY = 65536, LOG = 256, TAPE = 1 << 16, MOST_ROUNDS = 16, DATA_ADDRESS = 0x300 };
 
@@ -58,8 +58,8 @@ int main(int argc, char **argv)
     for (uint32_t rounds = 1; rounds <= MOST_ROUNDS && answer.number == 0; rounds *= 2) {
         options.iterations = rounds;
         answer = tavvinur_search(
-            words, words_length, marks, marks_length, options, LOG, 0, counter_code, sizeof counter_code, DATA_ADDRESS, counter_data,
-            sizeof counter_data, tape, TAPE);
+            words, words_length, marks, marks_length, options, LOG, 0, servings_code, sizeof servings_code, DATA_ADDRESS, servings_data,
+            sizeof servings_data, tape, TAPE);
         printf("rounds %" PRIu32 ": answer %" PRIu64 ", %" PRIu64 " words used\n", rounds, answer.number, answer.used);
         fflush(stdout);
     }

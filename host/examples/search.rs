@@ -1,10 +1,10 @@
-//! The search of search.c, from Rust: the counter's program in 300 states of 64 KiB, by searches of growing rounds on one tape.
+//! The search of search.c, from Rust: the printer's program in 300 states of 64 KiB, by searches of growing rounds on one tape.
 
 #[allow(dead_code)]
 #[path = "../rust/tavvinur.rs"]
 mod tavvinur;
 
-mod counter;
+mod servings;
 
 use std::process::exit;
 use tavvinur::{inputs, row_marks, row_words, search, Answer, Options, Program};
@@ -17,9 +17,9 @@ const MOST_ROUNDS: u32 = 16;
 
 const PROGRAM: Program = Program {
     code_address: 0,
-    code: &counter::COUNTER_CODE,
+    code: &servings::SERVINGS_CODE,
     data_address: 0x300,
-    data: &counter::COUNTER_DATA,
+    data: &servings::SERVINGS_DATA,
 };
 
 /// xorshift64*; any source of words does.

@@ -61,6 +61,20 @@ impl Answer {
     }
 }
 
+/// What a program answers that was run at the counter; what has no use is 0.
+#[repr(C)]
+#[derive(Debug, Clone, Copy, PartialEq, Eq)]
+pub struct Printed {
+    pub number: u64,
+    /// Before the instruction.
+    pub pc: u64,
+    pub value: u64,
+    /// Input words taken.
+    pub used: u64,
+    /// Bytes at the front of the output.
+    pub written: u64,
+}
+
 /// The number by which a call was refused, or 31 from a scoring.
 #[derive(Debug, Clone, Copy, PartialEq, Eq)]
 pub struct Refused(pub u64);
@@ -144,6 +158,43 @@ pub fn run(
             step,
             tape.as_ptr(),
             tape.len(),
+        )
+    }
+}
+
+/// Loads a label program into a lent row and runs it for at most `step` instructions, one input word to each draw. What it writes
+/// goes to the front of the output; the other bytes of the output are untouched.
+#[allow(clippy::too_many_arguments)]
+pub fn run_program(
+    words: &mut [u64],
+    marks: &mut [u8],
+    memory: u64,
+    log: u64,
+    step: u32,
+    program: &Program,
+    input: &[u64],
+    output: &mut [u8],
+) -> Printed {
+    // as in `new_executor`
+    unsafe {
+        tavvinur_run_program(
+            words.as_mut_ptr(),
+            words.len(),
+            marks.as_mut_ptr(),
+            marks.len(),
+            memory,
+            log,
+            step,
+            program.code_address,
+            program.code.as_ptr(),
+            program.code.len(),
+            program.data_address,
+            program.data.as_ptr(),
+            program.data.len(),
+            input.as_ptr(),
+            input.len(),
+            output.as_mut_ptr(),
+            output.len(),
         )
     }
 }
@@ -241,6 +292,26 @@ extern "C" {
         tape: *const u64,
         tape_length: usize,
     ) -> Answer;
+
+    fn tavvinur_run_program(
+        words: *mut u64,
+        words_length: usize,
+        marks: *mut u8,
+        marks_length: usize,
+        memory: u64,
+        log: u64,
+        step: u32,
+        code_address: u64,
+        code: *const u8,
+        code_length: usize,
+        data_address: u64,
+        data: *const u8,
+        data_length: usize,
+        input: *const u64,
+        input_length: usize,
+        output: *mut u8,
+        output_length: usize,
+    ) -> Printed;
 
     fn tavvinur_score(
         words: *const u64,

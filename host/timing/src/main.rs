@@ -14,6 +14,7 @@ mod timing;
 mod clock;
 mod engine;
 mod keys;
+mod label;
 mod mixed;
 mod original;
 mod plain;
@@ -52,6 +53,13 @@ pub const LOG: u64 = 512;
 pub const KEYS: Program = Program {
     code_address: 0,
     code: &keys::KEYS_CODE,
+    data_address: 0x200,
+    data: &[],
+};
+
+pub const LABEL: Program = Program {
+    code_address: 0,
+    code: &label::LABEL_CODE,
     data_address: 0x200,
     data: &[],
 };
@@ -109,25 +117,33 @@ fn milliseconds(time: Duration) -> f64 {
     time.as_secs_f64() * 1e3
 }
 
+const RUN_MEMORY: u64 = 65_536;
+
+/// A line for each number of instructions: the Rust's run of a program, and Tavvinur's of the same.
+fn compare_runs(name: &str, program: &Program, proved: fn(&Program, u64, u32) -> Duration) {
+    for instructions in [50_000_000, 400_000_000].iter().copied() {
+        let original = original::run(program, RUN_MEMORY, instructions);
+        let proved = proved(program, RUN_MEMORY, instructions);
+        let speed = |time: Duration| f64::from(instructions) / MILLION / time.as_secs_f64();
+        println!(
+            "| {} | {} | {:.1} | {:.1} | {:.2} |",
+            name,
+            instructions,
+            speed(original),
+            speed(proved),
+            ratio(original, proved)
+        );
+    }
+}
+
 fn runs() {
-    println!("runs: one executor of 64 KiB");
+    println!("runs: one executor of 64 KiB; printed at the counter: the Rust without an output");
     println!("| loop | instructions | Rust, million/s | Tavvinur, million/s | ratio |");
     println!("|---|---|---|---|---|");
-    for (name, program) in [("mixed", MIXED), ("plain", PLAIN)].iter() {
-        for instructions in [50_000_000, 400_000_000].iter().copied() {
-            let original = original::run(program, 65_536, instructions);
-            let proved = proved::run(program, 65_536, instructions);
-            let speed = |time: Duration| f64::from(instructions) / MILLION / time.as_secs_f64();
-            println!(
-                "| {} | {} | {:.1} | {:.1} | {:.2} |",
-                name,
-                instructions,
-                speed(original),
-                speed(proved),
-                ratio(original, proved)
-            );
-        }
-    }
+    compare_runs("mixed", &MIXED, proved::run);
+    compare_runs("plain", &PLAIN, proved::run);
+    compare_runs("label", &LABEL, proved::run);
+    compare_runs("label, printed at the counter", &LABEL, proved::print);
 }
 
 fn cases() -> Vec<Case> {

@@ -2,7 +2,8 @@
 
 use crate::{
     clock,
-    tavvinur::{new_executor, row_marks, row_words, run as run_row, score, search as search_store},
+    tavvinur::search as search_store,
+    tavvinur::{new_executor, row_marks, row_words, run as run_row, run_program, score},
     tavvinur::{Answer, Program, HARMONIC},
     Case, KEYS, LOG,
 };
@@ -34,6 +35,33 @@ pub fn run(program: &Program, memory: u64, instructions: u32) -> Duration {
     let answer = run_row(&mut words, &mut marks, memory, 0, instructions, &[]);
     let time = clock::now() - started;
     assert_eq!(answer.number, 22);
+    time
+}
+
+/// A run at the counter, into an output whose pages have been touched: a byte to eight instructions is more than LABEL writes.
+pub fn print(program: &Program, memory: u64, instructions: u32) -> Duration {
+    let Store {
+        mut words,
+        mut marks,
+    } = Store::new(1, memory, 0);
+    let mut output = vec![1; instructions as usize / 8];
+    let started = clock::now();
+    let printed = run_program(
+        &mut words,
+        &mut marks,
+        memory,
+        0,
+        instructions,
+        program,
+        &[],
+        &mut output,
+    );
+    let time = clock::now() - started;
+    assert_eq!(printed.number, 22);
+    assert!(
+        printed.written >= u64::from(instructions) / 100 * 8 - 8,
+        "eight bytes in every hundred instructions"
+    );
     time
 }
 

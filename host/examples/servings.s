@@ -1,4 +1,4 @@
-# A counter's label printer: reads keys one at a time and keeps the servings and the lines of a label.
+# A label printer that shares lines among servings: reads keys one at a time and keeps the servings and the lines of a label.
 # Keys, by the key word modulo 8: 0 one serving more, 1 one serving fewer, 2 a line of the label, 3 print, 4 the order is done;
 # all others do nothing. Nobody asks whether a serving is left, so that printing after as many 1s as there were servings divides by zero.
     .equ KEY, 0x400
