@@ -38,14 +38,15 @@ Fewer limit most step.Running r = Unit {0}
 Fewer limit most (step.Write buffer size) r = limit - depthOf r < most
 Fewer limit most (step.Ended o) r = Unit {0}
 
--- what is known of the halt of a run: served is what the run comes to in so much room
+-- what is known of the halt of a run; served says what the run comes to, by the room of its output
 pub record Halt (served : ℕ → Served) (limit most : ℕ) (tape : List ℕ) (x : Halted) : Type 0 where
   pub rest : (room : ℕ) → served room ≡ afterHalt tape room x
   pub kept : limitOf (x .row) ≡ limit
   pub fewer : Fewer limit most (x .paused .step) (x .row)
 
 -- a run goes on by adding 0 to its limit
-goes-on : (n : ℕ) (tape : List ℕ) (room used : ℕ) (r : Row) → n ≡ limitOf r - depthOf r → servedFor n tape room used r ≡ servedOf 0 tape room used r
+goes-on : (n : ℕ) (tape : List ℕ) (room used : ℕ) (r : Row) → n ≡ limitOf r - depthOf r
+    → servedFor n tape room used r ≡ servedOf 0 tape room used r
 unfolding servedOf
 goes-on n tape room used r e = simp (e, add-zero, set-getD)
 

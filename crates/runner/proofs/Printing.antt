@@ -9,7 +9,7 @@ use Rattle.rows.specs.Rows.{Row}
 use Rattle.machine.specs.Writes.{bytesFrom}
 use Rattle.writing.specs.Writing.{writtenAt, Wrote}
 
--- there are as many as the call has
+-- there are as many as the call's size says
 pub bytes-length : (size address : ℕ) (r : Row) → length (bytesFrom size address r) ≡ size
 unfolding bytesFrom
 bytes-length zero address r = refl

@@ -51,7 +51,7 @@ begins step input out r = record { text = []; wrote = wrote-none out 0 (omega ar
 module _ {whole : Served} {input out out' : List ℕ} {more used at : ℕ} {r : Row} (s : Serves whole input out more used at out' r)
     (w : Shape (r .words) (r .marks)) {x : Halted} (e : x ≡ pausedOf more input used r) where
   halt : Halt (λ room. servedOf more input room used r) (limitOf r + more) (limitOf r + more - depthOf r) input x
-  halt = subst (Halt (λ room. servedOf more input room used r) (limitOf r + more) (limitOf r + more - depthOf r) input) (sym e) (halting more input used r (omega (arith, w)))
+  halt = rw e (halting more input used r (omega (arith, w)))
 
   -- what is left once it is known at what it halted
   came : {t : Step} → x .paused .step ≡ t → preceded (s .text) (afterPause input (length out - at) t (x .paused .pc) (x .paused .used) (x .row)) ≡ whole

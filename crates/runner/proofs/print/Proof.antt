@@ -55,7 +55,9 @@ returns c =
     let s = entry (lent w) in
     let a = s .args in (
       w .write-to .ensures .1 ∙ ap (λ (n : ℕ). completed n (held s)) (part-length (a .at) (a .size) (a .output .now) (s .pre .1 .1)),
-      part-wrote (a .at) (a .size) (a .output .now) (s .pre .1 .1) (λ n. bytesFrom n (a .buffer) (held s)) _ (w .write-to .kept .1 .1 .1 .0) (w .write-to .ensures .0),
+      part-wrote (a .at) (a .size) (a .output .now) (s .pre .1 .1) (λ n. bytesFrom n (a .buffer) (held s)) _
+          (w .write-to .kept .1 .1 .1 .0)
+          (w .write-to .ensures .0),
     )
 
 pub print-spec : {M : Type 1} → statement M

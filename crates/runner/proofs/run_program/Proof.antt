@@ -20,6 +20,9 @@ accepted s = s .before .before .before .before
 abbrev run : tie.After-ran → tie.After-serve
 run c = c .before .before .before .before .before .before .before
 
+abbrev declined : tie.After-checked → tie.After-new-executor
+declined d = d .before .before .before .before .before .before
+
 -- the row and the program at the entry
 abbrev held : tie.Start → Row
 held s = row (s .args .words .now) (s .args .marks .now)
@@ -62,7 +65,10 @@ returns c =
     let s = entry n in
     let i = s .args in
     let made = n .new-executor .ensures in
-    let leaves = served (i .memory) (i .log) (asked s) (held s) (made .0) (made .1) (i .step) (i .input .now) (i .output .now) (a .enum-told .given .1) (v .serve .ensures .0) (v .serve .ensures .1) in
+    let leaves =
+    served (i .memory) (i .log) (asked s) (held s) (made .0) (made .1) (i .step) (i .input .now) (i .output .now) (a .enum-told .given .1)
+    (v .serve .ensures .0)
+    (v .serve .ensures .1) in
     (leaves, (one-run (i .memory) (i .log) (i .step) (asked s) (i .input .now) (held s) (i .output .now) leaves, v .serve .ensures .1 .room))
 
 same-length-4 : tie.Need-same-length-4
@@ -73,11 +79,12 @@ same-length-5 c = search needs
 
 returns-2 : tie.Need-returns-2
 returns-2 c =
-    let n = c .before .before .before .before .before .before .before in
+    let n = declined (c .before) in
     let s = entry n in
     let i = s .args in
     let made = n .new-executor .ensures in
-    let leaves = refused (i .memory) (i .log) (asked s) (held s) (made .0) (made .1) (i .step) (i .input .now) (i .output .now) (c .before .checked .given .1) in
+    let leaves =
+    refused (i .memory) (i .log) (asked s) (held s) (made .0) (made .1) (i .step) (i .input .now) (i .output .now) (c .before .checked .given .1) in
     (leaves, (one-run (i .memory) (i .log) (i .step) (asked s) (i .input .now) (held s) (i .output .now) leaves, omega arith))
 
 pub run-program-spec : {M : Type 1} → statement M

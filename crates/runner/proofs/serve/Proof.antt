@@ -13,10 +13,13 @@ use Rattle.runner.proofs.serve.Tie as tie
 
 abbrev Inv-loop : tie.InvT-loop
 Inv-loop words₀ marks₀ step input output₀ more₀ used₀ at₀ words marks output more used at =
-    Shape words marks × (length words ≡ length words₀) × (length marks ≡ length marks₀) × (length output ≡ length output₀) × (limitOf (row words marks) + more < 2 ^ 64) × Serves (servedOf step input (length output₀) 0 (row words₀ marks₀)) input output₀ more used at output (row words marks)
+    Shape words marks × (length words ≡ length words₀) × (length marks ≡ length marks₀) × (length output ≡ length output₀)
+    × (limitOf (row words marks) + more < 2 ^ 64)
+    × Serves (servedOf step input (length output₀) 0 (row words₀ marks₀)) input output₀ more used at output (row words marks)
 
 abbrev μ-loop : tie.MeasureT-loop
-μ-loop words₀ marks₀ step input output₀ more₀ used₀ at₀ words marks output more used at = limitOf (row words marks) + more - depthOf (row words marks)
+μ-loop words₀ marks₀ step input output₀ more₀ used₀ at₀ words marks output more used at =
+    limitOf (row words marks) + more - depthOf (row words marks)
 
 -- ---- the places that the answers look back to, each by its way from the next one
 abbrev Turn : Type 0
@@ -39,6 +42,15 @@ run w = w .before .before .before .before .before .before
 
 abbrev write : Print → Write
 write p = p .before .before .before .before .before .before
+
+abbrev printed : tie.After-slice-known8 Inv-loop μ-loop → Print
+printed c = c .before .before .before .before .before .before
+
+abbrev at-limit : tie.After-enum-told Inv-loop μ-loop → Run
+at-limit e = e .before .before .before .before .before .before
+
+abbrev at-end : tie.After-came-to2 Inv-loop μ-loop → Run
+at-end e = e .before .before .before .before .before .before
 
 loop-holds : tie.Need-loop-holds Inv-loop μ-loop
 loop-holds c = (search needs, search needs, search needs, search needs, search needs, begins _ _ _ _)
@@ -65,9 +77,12 @@ same-length-3 c = search needs
 
 returns : tie.Need-returns Inv-loop μ-loop
 returns c =
-    let h = c .before .before .before .before .before .before .before in
+    let h = at-limit (c .before) in
     let t = turn h in
-    answered (limited (t .loop .inv .5) (t .loop .inv .0) (h .run-to-write .ensures .0) (c .before .enum-told .given .1)) (c .ended .ensures .0) (c .ended .ensures .1)
+    answered
+    (limited (t .loop .inv .5) (t .loop .inv .0) (h .run-to-write .ensures .0) (c .before .enum-told .given .1))
+    (c .ended .ensures .0)
+    (c .ended .ensures .1)
 
 enum-known-came-to : tie.Need-enum-known-came-to Inv-loop μ-loop
 enum-known-came-to c = search needs
@@ -91,7 +106,10 @@ returns-2 : tie.Need-returns-2 Inv-loop μ-loop
 returns-2 c =
     let w = c .before .before .before in
     let t = turn (run w) in
-    answered (filled (t .loop .inv .5) (t .loop .inv .0) (run w .run-to-write .ensures .0) (w .came-to .given .1) (omega (arith, c .before .if1 .taken, t .loop .inv .3))) (c .ended2 .ensures .0) (c .ended2 .ensures .1)
+    answered
+    (filled (t .loop .inv .5) (t .loop .inv .0) (run w .run-to-write .ensures .0) (w .came-to .given .1) (omega (arith, c .before .if1 .taken, t .loop .inv .3)))
+    (c .ended2 .ensures .0)
+    (c .ended2 .ensures .1)
 
 print-requires : tie.Need-print-requires Inv-loop μ-loop
 print-requires c κs =
@@ -99,19 +117,19 @@ print-requires c κs =
     let h = run w in
     let t = turn h in
     let inside = subst (HandedOut (memoryIn (t .loop .marks))) (w .came-to .given .1) (h .run-to-write .ensures .1) in (
-      record { registers = omega (arith, h .run-to-write .kept, t .loop .inv .0); slots = omega (arith, h .run-to-write .kept, t .loop .inv .0) },
+      same-shape _ _ _ _ (h .run-to-write .kept .0) (h .run-to-write .kept .1 .0) (t .loop .inv .0),
       (omega (arith, inside, h .run-to-write .kept), omega (arith, c .before .before .before .if1 .left, t .loop .inv .5 .wrote .room, t .loop .inv .3)),
     )
 
 loop-less : tie.Need-loop-less Inv-loop μ-loop
 loop-less c =
-    let p = c .before .before .before .before .before .before in
+    let p = printed c in
     let h = run (write p) in
     fewer-left (turn h .loop .inv .5) (turn h .loop .inv .0) (h .run-to-write .ensures .0) (write p .came-to .given .1) (p .print .ensures .0)
 
 loop-again : tie.Need-loop-again Inv-loop μ-loop
 loop-again c =
-    let p = c .before .before .before .before .before .before in
+    let p = printed c in
     let h = run (write p) in
     let t = turn h in
     let words-kept = p .print .kept .0 ∙ h .run-to-write .kept .0 in
@@ -142,9 +160,12 @@ same-length-9 c = search needs
 
 returns-3 : tie.Need-returns-3 Inv-loop μ-loop
 returns-3 c =
-    let h = c .before .before .before .before .before .before .before .before in
+    let h = at-end (c .before .before) in
     let t = turn h in
-    answered (stopped (t .loop .inv .5) (t .loop .inv .0) (h .run-to-write .ensures .0) (c .before .before .came-to2 .given .1)) (c .ended3 .ensures .0) (c .ended3 .ensures .1)
+    answered
+    (stopped (t .loop .inv .5) (t .loop .inv .0) (h .run-to-write .ensures .0) (c .before .before .came-to2 .given .1))
+    (c .ended3 .ensures .0)
+    (c .ended3 .ensures .1)
 
 pub serve-spec : {M : Type 1} → statement M
 serve-spec =
