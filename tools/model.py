@@ -1,4 +1,5 @@
-"""A model of the scope paper: one executor on its row, the entries over one row, scoring, whole searches, and sheets.
+"""A model of the scope paper: one executor on its row, the entries over one row, scoring, whole searches, and sheets; and of
+document 02's run at the counter.
 
 A second reading of the paper that shares nothing with the Rattle code. The tools that make the lists in crates/*/data ask it
 what each case must come to; mksheet and explain have from it what a sheet is, what refuses it, and the instructions.
@@ -21,6 +22,8 @@ CLEAN, NOT_SUPPORTED, INVALID, LIMIT_REACHED, PC_OUTSIDE, TAPE_EMPTY, LOG_FULL =
 ZERO_DIVISOR, UNINITIALISED, UNALIGNED, OUT_OF_RANGE, EXIT_CODE = 41, 42, 43, 44, 45
 BUGS = range(ZERO_DIVISOR, EXIT_CODE + 1)
 ERRORS = (NOT_SUPPORTED, INVALID, PC_OUTSIDE, TAPE_EMPTY, LOG_FULL)
+# An error where a write has an output, at the counter alone.
+OUTPUT_FULL = 71
 OPERAND, WRITE_CALL = 1, 2
 
 BRK, READ, WRITE, EXIT = 214, 63, 64, 93
@@ -255,7 +258,11 @@ class Executor:
         first, count = buffer // 8, (size + buffer % 8 + 7) // 8
         if any(self.word(m) is None for m in range(first, first + count)):
             raise End(UNINITIALISED, WRITE_CALL)
+        self.put_out(buffer, size)
         self.set_register(A0, size)
+
+    def put_out(self, buffer, size):
+        """A write's bytes go nowhere."""
 
     def call_exit(self):
         value = self.base(A0, 9)
@@ -315,6 +322,36 @@ def new_row(memory, log, segments):
     (code, _), (data, content) = segments
     words[PC], words[BREAK] = code, data + len(content)
     return words, marks
+
+
+# --- a run at the counter ---
+
+Printed = collections.namedtuple("Printed", "number pc value used written")
+
+
+class Printer(Executor):
+    """An executor whose writes go to an output: from the buffer's exact byte on, and whole or not at all."""
+
+    def __init__(self, words, marks, memory, log, tape, output):
+        super().__init__(words, marks, memory, log, tape)
+        self.output, self.written = output, 0
+
+    def put_out(self, buffer, size):
+        if size > len(self.output) - self.written:
+            raise End(OUTPUT_FULL)
+        for address in range(buffer, buffer + size):
+            self.output[self.written] = self.word(address // 8).to_bytes(8, "little")[address % 8]
+            self.written += 1
+
+
+def run_program(words, marks, memory, log, step, segments, tape, output):
+    """The answer to an order; words, marks and output are changed to what is left of them."""
+    number = sizes_refused(memory, log, len(words), len(marks)) or segments_refused(memory, segments)
+    if number:
+        return Printed(number, 0, 0, 0, 0)
+    words[:], marks[:] = new_row(memory, log, segments)
+    printer = Printer(words, marks, memory, log, tape, output)
+    return Printed(*printer.run(step), printer.written)
 
 
 # --- scoring ---

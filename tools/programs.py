@@ -10,7 +10,8 @@ from commands import need_to_run
 from lists import need
 from model import A0, A1, A2, BRK, EXIT, READ, SP, T0, T1, WRITE, X0
 
-PROGRAMS = os.path.join(os.path.dirname(os.path.abspath(__file__)), "labels.d")
+TOOLS = os.path.dirname(os.path.abspath(__file__))
+PROGRAMS = os.path.join(TOOLS, "labels.d")
 
 AS, LD, OBJCOPY = ("riscv64-linux-gnu-" + tool for tool in ("as", "ld", "objcopy"))
 PACKAGE = "binutils-riscv64-linux-gnu"
@@ -77,15 +78,15 @@ def numbers_of(text):
 def options_of(line):
     """The options of a line `#:`, each a list of numbers."""
     given = dict(option.split("=") for option in line.removeprefix(DIRECTIVE).split())
-    known = {"tape", "runs", "memory", "log", "code", "data"}
+    known = {"tape", "runs", "memory", "log", "code", "data", "output"}
     need(set(given) <= known, f"no such option in '{line}'")
     return {key: numbers_of(text) for key, text in given.items()}
 
 
-def label_programs(folder):
-    """Name, code, data and the options of each of its cases."""
-    for file in sorted(os.listdir(PROGRAMS)):
-        with open(os.path.join(PROGRAMS, file)) as source:
+def label_programs(folder, programs=PROGRAMS):
+    """Name, code, data and the options of each of its cases, for each of these programs."""
+    for file in sorted(os.listdir(programs)):
+        with open(os.path.join(programs, file)) as source:
             text = source.read()
         code, data = (padded(content) for content in assemble(folder, text))
         lines = [line for line in text.splitlines() if line.startswith(DIRECTIVE)]
