@@ -17,9 +17,10 @@ PC, BREAK, DEPTH, LIMIT, LOG_COUNT, HEADER = range(6)
 REGISTERS = 32
 X0, SP, T0, T1, A0, A1, A2, A7 = 0, 2, 5, 6, 10, 11, 12, 17
 
-# Answers. Bugs are 41 to 45; refusals 1, 4, 5, 6, 7 and 9.
+# Answers. Bugs are 41 to 45; refusals of entries over one row 1, 4, 5, 6, 7 and 9.
 CLEAN, NOT_SUPPORTED, INVALID, LIMIT_REACHED, PC_OUTSIDE, TAPE_EMPTY, LOG_FULL = 0, 20, 21, 22, 23, 24, 25
 ZERO_DIVISOR, UNINITIALISED, UNALIGNED, OUT_OF_RANGE, EXIT_CODE = 41, 42, 43, 44, 45
+REFUSALS = (1, 4, 5, 6, 7, 9)
 BUGS = range(ZERO_DIVISOR, EXIT_CODE + 1)
 ERRORS = (NOT_SUPPORTED, INVALID, PC_OUTSIDE, TAPE_EMPTY, LOG_FULL)
 # An error where a write has an output, at the counter alone.
@@ -595,9 +596,8 @@ def fnv1a(content):
     return h
 
 
-def store_lines(search):
-    """Digests of the words and of the marks that a search leaves, for hosts."""
-    words, marks = search.store()
+def store_lines(words, marks):
+    """Digests of the words and of the marks that a call leaves, for hosts."""
     return f"words {fnv1a(struct.pack(f'<{len(words)}Q', *words)):016x}\nmarks {fnv1a(bytes(marks)):016x}\n"
 
 
@@ -610,4 +610,27 @@ def printed(sheet, bench=True):
     if number:
         return lines_of(Found(number, 0, 0, 0, 0))
     found = search.search()
-    return lines_of(found, search.inputs(found)) + ("" if bench else store_lines(search))
+    return lines_of(found, search.inputs(found)) + ("" if bench else store_lines(*search.store()))
+
+
+# The output that a host lends where it runs a sheet at the counter, and what stands in it before.
+ORDER_OUTPUT, ORDER_BYTE = 1024, 0xEE
+
+
+def order_lines(answer):
+    return "answer {} pc {} value {}\nused {}\nwritten {}\n".format(*answer)
+
+
+def printed_order(sheet):
+    """What a host prints for a sheet's program, tape, step, memory and log at the counter: the answer, and digests of row and output."""
+    number, asked = read_sheet(sheet, bench=False)
+    if number:
+        return order_lines(Printed(number, 0, 0, 0, 0))
+    o, output = asked.options, bytearray([ORDER_BYTE]) * ORDER_OUTPUT
+    # what is refused for its sizes needs no row
+    sizes = row_sizes(o.memory, o.log) if o.memory <= ENTRY_MEMORY and o.log <= ENTRY_LOG else (0, 0)
+    words, marks = ([0] * size for size in sizes)
+    answer = run_program(words, marks, o.memory, o.log, o.step, asked.segments, asked.tape, output)
+    if answer.number in REFUSALS:
+        return order_lines(answer)
+    return order_lines(answer) + store_lines(words, marks) + f"output {fnv1a(output):016x}\n"

@@ -182,3 +182,32 @@ def varied_texts(rng, address):
         kinds = [random_call, random_access, random_jump, random_arithmetic, random_loop, lambda r: random_patch(r, address)]
         texts += rng.choice(kinds)(rng)
     return texts + rng.choice([telling(f"x{rng.choice(POOL)}")] * 4 + [LEAVE, []])
+
+
+# --- random programs that write ---
+
+
+def write(buffer, size):
+    return ["li a7, WRITE", "li a0, 1", f"li a1, {buffer}", f"li a2, {size}", "ecall"]
+
+
+PRINTED_AT = 0x280
+
+
+def printed_data(rng):
+    return PRINTED_AT, b"".join(random_word(rng).to_bytes(8, "little") for _ in range(rng.randrange(3, 8)))
+
+
+def random_write(rng):
+    """Most often from such data, now and then from anywhere."""
+    buffer = rng.choice([PRINTED_AT + rng.randrange(40)] * 8 + [rng.choice(PLACES)])
+    return write(buffer, rng.choice(SIZES))
+
+
+def printing_texts(rng):
+    """Writes with something else after each of them."""
+    texts = [f"li x{n}, {rng.choice(PLACES + SIZES)}" for n in POOL[2:] if rng.randrange(5)]
+    for _ in range(rng.randrange(1, 5)):
+        kinds = [random_call, random_access, random_jump, random_arithmetic, random_arithmetic, random_loop]
+        texts += random_write(rng) + rng.choice(kinds)(rng)
+    return texts + rng.choice([LEAVE, LEAVE, random_write(rng) + LEAVE, telling("a0"), []])
