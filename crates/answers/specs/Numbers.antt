@@ -7,7 +7,7 @@ use Rattle.answers.specs.declared.bug.Bug.the-variants.{DivisionByZero, 
 use Rattle.answers.specs.declared.error.NotSupportedReason.{NotSupportedReason}
 use Rattle.answers.specs.declared.error.NotSupportedReason.the-variants as reason
 use Rattle.answers.specs.declared.error.ExecutorError.{ExecutorError}
-use Rattle.answers.specs.declared.error.ExecutorError.the-variants.{NotSupported, InvalidInstructionEncoding, PcOutOfRange, TapeEmpty, LogFull}
+use Rattle.answers.specs.declared.error.ExecutorError.the-variants.{NotSupported, InvalidInstructionEncoding, PcOutOfRange, TapeEmpty, LogFull, OutputFull}
 use Rattle.answers.specs.declared.outcome.Outcome.{Outcome}
 use Rattle.answers.specs.declared.outcome.Outcome.the-variants.{Exited, Found, Failed}
 use Rattle.answers.specs.declared.outcome.Progress.{Progress}
@@ -50,13 +50,14 @@ reasonValue reason.LdUninitializedBase = 11
 reasonValue reason.SdUninitializedBase = 12
 reasonValue reason.JalrUninitializedBase = 13
 
--- 23 pc/8 at or past W, 24 tape empty, 25 log full
+-- 23 pc/8 at or past W, 24 tape empty, 25 log full, 71 output full (document 02, change 1)
 abbrev pub errorNumber : ExecutorError → ℕ
 errorNumber (NotSupported why) = 20
 errorNumber InvalidInstructionEncoding = 21
 errorNumber PcOutOfRange = 23
 errorNumber TapeEmpty = 24
 errorNumber LogFull = 25
+errorNumber OutputFull = 71
 
 -- error 20's value is its reason
 abbrev pub errorValue : ExecutorError → ℕ
@@ -65,6 +66,7 @@ errorValue InvalidInstructionEncoding = 0
 errorValue PcOutOfRange = 0
 errorValue TapeEmpty = 0
 errorValue LogFull = 0
+errorValue OutputFull = 0
 
 -- 0 is a clean end
 abbrev pub outcomeNumber : Outcome → ℕ

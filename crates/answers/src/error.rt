@@ -3,7 +3,7 @@
 ghost use mathlib.Core.Path.{_≡_};
 ghost use Rattle.answers.specs.Numbers.{errorNumber, errorValue, reasonValue};
 
-// The errors, numbers 20, 21, 23, 24 and 25.
+// The errors, numbers 20, 21, 23, 24, 25 and 71.
 pub enum ExecutorError {
     NotSupported(NotSupportedReason),
     InvalidInstructionEncoding,
@@ -11,6 +11,8 @@ pub enum ExecutorError {
     PcOutOfRange,
     TapeEmpty,
     LogFull,
+    // a write call needs more output than is left; the counter runner alone has an output
+    OutputFull,
 }
 
 // What 20 cannot do.
@@ -62,6 +64,7 @@ impl ExecutorError {
             ExecutorError::PcOutOfRange => 23,
             ExecutorError::TapeEmpty => 24,
             ExecutorError::LogFull => 25,
+            ExecutorError::OutputFull => 71,
         }
     }
 
@@ -74,6 +77,7 @@ impl ExecutorError {
             ExecutorError::PcOutOfRange => 0,
             ExecutorError::TapeEmpty => 0,
             ExecutorError::LogFull => 0,
+            ExecutorError::OutputFull => 0,
         }
     }
 }

@@ -1,3 +1,6 @@
 pub mod Known
 pub mod Kept
 pub mod Turns
+pub mod Handing
+pub mod HandedOut
+pub mod Bytes

@@ -2,15 +2,18 @@
 ghost use mathlib.Core.Path.{_≡_};
 ghost use Prim.Native.Nat.{_+_, _-_, _<_, _^_};
 ghost use Rattle.answers.specs.declared.outcome.Outcome.the-variants.{Failed};
-ghost use Rattle.answers.specs.declared.outcome.Progress.the-variants.{Ended};
-ghost use Rattle.rows.specs.Rows.{row, Shape, depthOf, limitOf};
-ghost use Rattle.machine.specs.Runs.{runFor, runOf, finishedAs, answerOf};
+ghost use Rattle.rows.specs.Rows.{row, Shape, depthOf, limitOf, memoryIn};
+ghost use Rattle.machine.specs.Runs.{runOf, finishedAs};
+ghost use Rattle.machine.specs.Pauses.{haltedAs, pauseOf, pausedOf};
+ghost use Rattle.machine.specs.Handing.{haltedFor, progressOf};
+ghost use Rattle.machine.specs.HandedOut.{HandedOut};
 use crate::step::Fetched;
 use crate::step::advance;
 use crate::step::fetch_next;
 use answers::error::ExecutorError;
 use answers::outcome::Outcome;
 use answers::outcome::Progress;
+use calls::step::Step;
 use riscu::decode::decode;
 use riscu::instruction::Decoded;
 use riscu::instruction::INSTRUCTION_SIZE;
@@ -27,16 +30,23 @@ pub struct Ran {
     pub used: usize,
 }
 
-fn answer(progress: Progress, pc: u64, used: usize) -> Ran
-    ensures { λ r. ⌜ r ≡ answerOf progress pc used ⌝ }
-{
-    Ran { progress, pc, used }
+// The same of a run that halts at a write call: the step says at what it halted.
+pub struct Paused {
+    pub step: Step,
+    pub pc: u64,
+    pub used: usize,
 }
 
-fn failed(error: ExecutorError, pc: u64, used: usize) -> Ran
-    ensures { λ r. ⌜ r ≡ answerOf (Ended (Failed error)) pc used ⌝ }
+fn pause(step: Step, pc: u64, used: usize) -> Paused
+    ensures { λ r. ⌜ r ≡ pauseOf step pc used ⌝ }
 {
-    answer(Progress::Ended(Outcome::Failed(error)), pc, used)
+    Paused { step, pc, used }
+}
+
+fn failed(error: ExecutorError, pc: u64, used: usize) -> Paused
+    ensures { λ r. ⌜ r ≡ pauseOf (Step.Ended (Failed error)) pc used ⌝ }
+{
+    pause(Step::Ended(Outcome::Failed(error)), pc, used)
 }
 
 // Words that were decoded before are kept with their instructions, by where they were fetched. An instruction depends on
@@ -47,11 +57,19 @@ const KNOWN: usize = 64;
 // The word of ecall, which every entry has at first.
 const ECALL: u32 = 0x73;
 
-// Runs until depth is at the limit.
-fn run_to(words: &mut [u64], marks: &mut [u8], limit: u64, tape: &[u64], used: usize) -> Ran
+// Runs until depth is at the limit; write calls are handed out, or completed: their bytes go nowhere then. There is one loop
+// for both, since a second one, or a second caller of an instruction, makes either of them slower by half.
+fn run_to(
+    words: &mut [u64],
+    marks: &mut [u8],
+    limit: u64,
+    tape: &[u64],
+    used: usize,
+    handing: bool,
+) -> Paused
     requires { ⌜ Shape (now words) (now marks) ⌝ }
-    ensures { λ r. ⌜ finishedAs (now (words .exit)) (now (marks .exit)) r
-        ≡ runFor (limit - depthOf (row (now (words .entry)) (now (marks .entry)))) (now (tape .entry)) used
+    ensures { λ r. ⌜ haltedAs (now (words .exit)) (now (marks .exit)) r
+        ≡ haltedFor handing (limit - depthOf (row (now (words .entry)) (now (marks .entry)))) (now (tape .entry)) used
         (row (now (words .entry)) (now (marks .entry))) ⌝ }
 {
     let ecall = Instruction::Ecall;
@@ -61,7 +79,7 @@ fn run_to(words: &mut [u64], marks: &mut [u8], limit: u64, tape: &[u64], used: u
     loop {
         let pc = words[PC];
         if limit <= words[DEPTH] {
-            return answer(Progress::Running, pc, at);
+            return pause(Step::Running, pc, at);
         }
         match fetch_next(words, marks) {
             Fetched::Word(word) => {
@@ -74,17 +92,33 @@ fn run_to(words: &mut [u64], marks: &mut [u8], limit: u64, tape: &[u64], used: u
                     instructions[entry] = instruction;
                 }
                 let instruction = instructions[entry];
-                let moved = advance(words, marks, instruction, tape, at);
-                at = moved.used;
-                let progress = moved.progress;
-                let Progress::Running = progress else {
-                    return answer(progress, pc, at);
-                };
+                let stepped = advance(words, marks, instruction, tape, at, handing);
+                at = stepped.used;
+                let step = stepped.step;
+                match step {
+                    Step::Running => {}
+                    Step::Write { buffer, size } => {
+                        return pause(Step::Write { buffer, size }, pc, at);
+                    }
+                    Step::Ended(outcome) => {
+                        return pause(Step::Ended(outcome), pc, at);
+                    }
+                }
             }
             Fetched::Refused(error) => {
                 return failed(error, pc, at);
             }
         }
+    }
+}
+
+fn progress_of(step: Step) -> Progress
+    ensures { λ r. ⌜ r ≡ progressOf step ⌝ }
+{
+    match step {
+        Step::Running => Progress::Running,
+        Step::Write { buffer: _, size: _ } => Progress::Running,
+        Step::Ended(outcome) => Progress::Ended(outcome),
     }
 }
 
@@ -97,5 +131,30 @@ pub fn run(words: &mut [u64], marks: &mut [u8], step: u32, tape: &[u64], used: u
 {
     let limit = words[LIMIT] + step as u64;
     words[LIMIT] = limit;
-    run_to(words, marks, limit, tape, used)
+    let paused = run_to(words, marks, limit, tape, used, false);
+    let came_to = paused.step;
+    Ran {
+        progress: progress_of(came_to),
+        pc: paused.pc,
+        used: paused.used,
+    }
+}
+
+// Runs at most `step` instructions more, up to a write call, which the caller completes by `write_to`, or not at all.
+pub fn run_to_write(
+    words: &mut [u64],
+    marks: &mut [u8],
+    step: u32,
+    tape: &[u64],
+    used: usize,
+) -> Paused
+    requires { ⌜ Shape (now words) (now marks) ⌝ }
+    requires { ⌜ limitOf (row (now words) (now marks)) + step < 2 ^ 64 ⌝ }
+    ensures { λ r. ⌜ haltedAs (now (words .exit)) (now (marks .exit)) r
+        ≡ pausedOf step (now (tape .entry)) used (row (now (words .entry)) (now (marks .entry))) ⌝ }
+    ensures { λ r. ⌜ HandedOut (memoryIn (now (marks .entry))) (r .step) ⌝ }
+{
+    let limit = words[LIMIT] + step as u64;
+    words[LIMIT] = limit;
+    run_to(words, marks, limit, tape, used, true)
 }

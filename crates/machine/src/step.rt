@@ -4,20 +4,18 @@ ghost use Prim.Native.Nat.{_+_, _<_, _^_};
 ghost use Rattle.riscu.specs.Registers.{Registers};
 ghost use Rattle.riscu.specs.declared.instruction.Decoded.the-variants.{Valid};
 ghost use Rattle.rows.specs.Rows.{row, Shape, depthOf};
-ghost use Rattle.reading.specs.Reading.{reached};
 ghost use Rattle.calls.specs.Calls.{called};
-ghost use Rattle.machine.specs.Steps.{halfAt, fetched, followed, executed, settled, deeper, settledCall};
+ghost use Rattle.machine.specs.Steps.{halfAt, fetched, followed, executed, deeper};
+ghost use Rattle.machine.specs.Handing.{handed, handedOn};
 use answers::error::ExecutorError;
 use answers::error::NotSupportedReason;
 use answers::outcome::Outcome;
-use answers::outcome::Progress;
 use calls::step::Step;
 use calls::step::Stepped;
 use calls::system::complete_write;
 use calls::system::execute_ecall;
 use execution::Next;
 use execution::execute;
-use reading::Moved;
 use riscu::instruction::Instruction;
 use rows::row::DEPTH;
 use rows::row::PC;
@@ -90,45 +88,43 @@ pub(crate) fn fetch_next(words: &mut [u64], marks: &[u8]) -> Fetched
     fetch(words, marks)
 }
 
-fn settle(words: &mut [u64], marks: &mut [u8], step: Step, used: usize) -> Moved
+fn settle(words: &mut [u64], marks: &mut [u8], step: Step, used: usize, handing: bool) -> Stepped
     requires { ⌜ Shape (now words) (now marks) ⌝ }
-    ensures { λ r. ⌜ reached (now (words .exit)) (now (marks .exit)) r ≡ settled step used (row (now (words .entry)) (now (marks .entry))) ⌝ }
+    ensures { λ r. ⌜ called (now (words .exit)) (now (marks .exit)) r ≡ handed handing step used (row (now (words .entry)) (now (marks .entry))) ⌝ }
 {
     match step {
-        Step::Running => Moved {
-            progress: Progress::Running,
-            used,
-        },
+        Step::Running => Stepped { step, used },
         Step::Write { buffer: _, size } => {
+            if handing {
+                return Stepped { step, used };
+            }
             complete_write(words, marks, size);
-            Moved {
-                progress: Progress::Running,
+            Stepped {
+                step: Step::Running,
                 used,
             }
         }
-        Step::Ended(outcome) => Moved {
-            progress: Progress::Ended(outcome),
-            used,
-        },
+        Step::Ended(_) => Stepped { step, used },
     }
 }
 
-// An instruction, whole: the bytes of a write call go nowhere.
+// An instruction; a write call is handed out, or completed at once: its bytes go nowhere then.
 pub(crate) fn advance(
     words: &mut [u64],
     marks: &mut [u8],
     instruction: Instruction,
     tape: &[u64],
     used: usize,
-) -> Moved
+    handing: bool,
+) -> Stepped
     requires { ⌜ Shape (now words) (now marks) ⌝ }
     requires { ⌜ Registers instruction ⌝ }
-    ensures { λ r. ⌜ reached (now (words .exit)) (now (marks .exit)) r
-        ≡ settledCall (executed (Valid instruction) (now (tape .entry)) used (row (now (words .entry)) (now (marks .entry)))) ⌝ }
+    ensures { λ r. ⌜ called (now (words .exit)) (now (marks .exit)) r
+        ≡ handedOn handing (executed (Valid instruction) (now (tape .entry)) used (row (now (words .entry)) (now (marks .entry)))) ⌝ }
 {
     let next = execute(words, marks, instruction);
     let stepped = follow(words, marks, next, tape, used);
     let at = stepped.used;
     let came_to = stepped.step;
-    settle(words, marks, came_to, at)
+    settle(words, marks, came_to, at, handing)
 }

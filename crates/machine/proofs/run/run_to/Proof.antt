@@ -12,21 +12,22 @@ use Rattle.riscu.proofs.Registers.{decoded-registers}
 use Rattle.answers.specs.declared.error.ExecutorError.the-variants.{InvalidInstructionEncoding}
 use Rattle.answers.specs.declared.outcome.Outcome.the-variants.{Failed}
 use Rattle.rows.specs.Rows.{Row, row, Shape, depthOf}
-use Rattle.reading.specs.Reading.{Reached, reached, ended}
-use Rattle.machine.specs.Steps.{deeper, advanced}
-use Rattle.machine.specs.Runs.{runFor}
+use Rattle.calls.specs.Calls.{Called, called, stepTo}
+use Rattle.calls.specs.declared.step.Step.the-variants.{Ended}
+use Rattle.machine.specs.Steps.{deeper}
+use Rattle.machine.specs.Handing.{steppedBy, haltedFor}
 use Rattle.machine.proofs.Known.{Faithful, Looked, nothing-known, found, learnt}
-use Rattle.machine.proofs.Kept.{advanced-depth}
-use Rattle.machine.proofs.Turns.{at-limit, turned, stopped, by-word, by-invalid, by-refusal}
+use Rattle.machine.proofs.Kept.{stepped-by-depth}
+use Rattle.machine.proofs.Turns.{at-limit, turned, wrote, stopped, by-word, by-invalid, by-refusal}
 use Rattle.machine.proofs.run.run_to.Statement.{statement}
 use Rattle.machine.proofs.run.run_to.Tie as tie
 
 abbrev Inv-loop : tie.InvT-loop
-Inv-loop words₀ marks₀ limit tape used known₀ instructions₀ at₀ words marks known instructions at =
-    Shape words marks × (length words ≡ length words₀) × (length marks ≡ length marks₀) × (runFor (limit - getD words 2 0) tape at (row words marks) ≡ runFor (limit - getD words₀ 2 0) tape at₀ (row words₀ marks₀)) × Faithful known instructions
+Inv-loop words₀ marks₀ limit tape used handing known₀ instructions₀ at₀ words marks known instructions at =
+    Shape words marks × (length words ≡ length words₀) × (length marks ≡ length marks₀) × (haltedFor handing (limit - getD words 2 0) tape at (row words marks) ≡ haltedFor handing (limit - getD words₀ 2 0) tape at₀ (row words₀ marks₀)) × Faithful known instructions
 
 abbrev μ-loop : tie.MeasureT-loop
-μ-loop words₀ marks₀ limit tape used known₀ instructions₀ at₀ words marks known instructions at = limit - getD words 2 0
+μ-loop words₀ marks₀ limit tape used handing known₀ instructions₀ at₀ words marks known instructions at = limit - getD words 2 0
 
 -- ---- the places that the answers look back to, each by its way from the next one
 abbrev Turn : Type 0
@@ -56,6 +57,12 @@ word l = l .before .before
 abbrev look : Move → Look
 look m = m .before .before .before .before
 
+abbrev written : tie.After-step Inv-loop μ-loop → Move
+written s = s .before .before .before .before .before .before
+
+abbrev over : tie.After-step2 Inv-loop μ-loop → Move
+over s = s .before .before .before .before .before .before
+
 -- the row at the start of a turn
 abbrev held : Turn → Row
 held t = row (t .loop .words) (t .loop .marks)
@@ -76,8 +83,8 @@ slice-read-pc c = search needs
 slice-read-if1 : tie.Need-slice-read-if1 Inv-loop μ-loop
 slice-read-if1 c = search needs
 
-answer-requires : tie.Need-answer-requires Inv-loop μ-loop
-answer-requires c κs = search needs
+pause-requires : tie.Need-pause-requires Inv-loop μ-loop
+pause-requires c κs = search needs
 
 same-length : tie.Need-same-length Inv-loop μ-loop
 same-length c = c .before .before .before .before .loop .inv .1
@@ -88,7 +95,7 @@ same-length-2 c = search needs
 returns : tie.Need-returns Inv-loop μ-loop
 returns c =
     let t = c .before .before .before .before in
-    rw (c .answer .ensures) (at-limit _ _ _ (held t) (c .before .if1 .taken) ∙ t .loop .inv .3)
+    rw (c .pause .ensures) (at-limit _ _ _ _ (held t) (c .before .if1 .taken) ∙ t .loop .inv .3)
 
 fetch-next-requires : tie.Need-fetch-next-requires Inv-loop μ-loop
 fetch-next-requires c κs = search needs
@@ -131,9 +138,9 @@ returns-2 c =
     let f = fetch w in
     let t = turn f in
     let no-instruction = sym (c .before .enum-told .given .1) ∙ c .before .before .before .decode .ensures in
-    let came = by-invalid _ _ (held t) _ (sym (w .word .given .1) ∙ f .fetch-next .ensures .0) no-instruction in
+    let came = by-invalid _ _ _ (held t) _ (sym (w .word .given .1) ∙ f .fetch-next .ensures .0) no-instruction in
     rw (c .failed .ensures, f .fetch-next .ensures .1)
-    (stopped _ _ _ (held t) (ended (Failed InvalidInstructionEncoding) (t .loop .at) (deeper (held t))) (below f) came _ refl ∙ t .loop .inv .3)
+    (stopped _ _ _ _ (held t) (stepTo (Ended (Failed InvalidInstructionEncoding)) (t .loop .at) (deeper (held t))) (below f) came _ refl ∙ t .loop .inv .3)
 
 mul-known : tie.Need-mul-known Inv-loop μ-loop
 mul-known c = search needs
@@ -172,12 +179,18 @@ advance-requires c κs =
 
 -- what fetching, looking and executing come to is the instruction
 moved : (m : Move) → let t = turn (fetch (word (look m))) in
-    _≡_ {A = Reached} (reached (m .advance .last .0) (m .advance .last .1 .0) (m .advance .result)) (advanced (entry t .args .tape .now) (t .loop .at) (held t))
+    _≡_ {A = Called} (called (m .advance .last .0) (m .advance .last .1 .0) (m .advance .result)) (steppedBy (entry t .args .handing) (entry t .args .tape .now) (t .loop .at) (held t))
 moved m =
     let w = word (look m) in
     let f = fetch w in
     m .advance .ensures
-    ∙ by-word _ _ (held (turn f)) _ _ _ (sym (w .word .given .1) ∙ f .fetch-next .ensures .0) (looked (look m) .entry _) (f .fetch-next .ensures .1)
+    ∙ by-word _ _ _ (held (turn f)) _ _ _ (sym (w .word .given .1) ∙ f .fetch-next .ensures .0) (looked (look m) .entry _) (f .fetch-next .ensures .1)
+
+-- it keeps the row's length
+lengths : (m : Move) → let f = fetch (word (look m)) in length (m .advance .last .0) ≡ length (entry (turn f) .args .words .now)
+lengths m =
+    let f = fetch (word (look m)) in
+    m .advance .kept .0 ∙ f .fetch-next .kept .0 ∙ turn f .loop .inv .1
 
 enum-told-2 : tie.Need-enum-told-2 Inv-loop μ-loop
 enum-told-2 c = search needs
@@ -187,7 +200,7 @@ loop-less c =
     let m = c .before .before .before .before .before .before in
     let f = fetch (word (look m)) in
     let t = turn f in
-    omega (arith, below f, ap (λ (y : Reached). depthOf (y .row)) (moved m) ∙ advanced-depth _ _ (held t) (omega (arith, t .loop .inv .0)))
+    omega (arith, below f, ap (λ (y : Called). depthOf (y .row)) (moved m) ∙ stepped-by-depth _ _ _ (held t) (omega (arith, t .loop .inv .0)))
 
 loop-again : tie.Need-loop-again Inv-loop μ-loop
 loop-again c =
@@ -200,32 +213,47 @@ loop-again c =
       record { registers = omega (arith, marks-kept, shape); slots = omega (arith, words-kept, marks-kept, shape) },
       words-kept ∙ t .loop .inv .1,
       marks-kept ∙ t .loop .inv .2,
-      turned _ _ _ (held t) _ (below f) (moved m) (omega (arith, shape)) (c .enum-told2 .given .1) ∙ t .loop .inv .3,
+      turned _ _ _ _ (held t) _ (below f) (moved m) (omega (arith, shape)) (c .enum-told2 .given .1) ∙ t .loop .inv .3,
       looked (look m) .faithful,
     )
 
-enum-told-3 : tie.Need-enum-told-3 Inv-loop μ-loop
-enum-told-3 c = search needs
+enum-known-step : tie.Need-enum-known-step Inv-loop μ-loop
+enum-known-step c = search needs
 
-answer-requires-2 : tie.Need-answer-requires-2 Inv-loop μ-loop
-answer-requires-2 c κs = search needs
+pause-requires-2 : tie.Need-pause-requires-2 Inv-loop μ-loop
+pause-requires-2 c κs = search needs
 
 same-length-5 : tie.Need-same-length-5 Inv-loop μ-loop
-same-length-5 c =
-    let m = c .before .before .before .before .before .before .before in
-    let f = fetch (word (look m)) in
-    m .advance .kept .0 ∙ f .fetch-next .kept .0 ∙ turn f .loop .inv .1
+same-length-5 c = lengths (written (c .before .before))
 
 same-length-6 : tie.Need-same-length-6 Inv-loop μ-loop
 same-length-6 c = search needs
 
 returns-3 : tie.Need-returns-3 Inv-loop μ-loop
 returns-3 c =
-    let m = c .before .before .before .before .before .before .before in
+    let m = written (c .before .before) in
     let f = fetch (word (look m)) in
     let t = turn f in
-    rw (c .answer2 .ensures, c .before .enum-told3 .given .1)
-    (stopped _ _ _ (held t) _ (below f) (moved m) _ (c .before .enum-told3 .given .1) ∙ t .loop .inv .3)
+    rw (c .pause2 .ensures) (wrote _ _ _ _ (held t) _ (below f) (moved m) _ _ (c .before .before .step .given .1) ∙ t .loop .inv .3)
+
+enum-known-step-2 : tie.Need-enum-known-step-2 Inv-loop μ-loop
+enum-known-step-2 c = search needs
+
+pause-requires-3 : tie.Need-pause-requires-3 Inv-loop μ-loop
+pause-requires-3 c κs = search needs
+
+same-length-7 : tie.Need-same-length-7 Inv-loop μ-loop
+same-length-7 c = lengths (over (c .before .before))
+
+same-length-8 : tie.Need-same-length-8 Inv-loop μ-loop
+same-length-8 c = search needs
+
+returns-4 : tie.Need-returns-4 Inv-loop μ-loop
+returns-4 c =
+    let m = over (c .before .before) in
+    let f = fetch (word (look m)) in
+    let t = turn f in
+    rw (c .pause3 .ensures) (stopped _ _ _ _ (held t) _ (below f) (moved m) _ (c .before .before .step2 .given .1) ∙ t .loop .inv .3)
 
 enum-known-error : tie.Need-enum-known-error Inv-loop μ-loop
 enum-known-error c = search needs
@@ -233,21 +261,21 @@ enum-known-error c = search needs
 failed-requires-2 : tie.Need-failed-requires-2 Inv-loop μ-loop
 failed-requires-2 c κs = search needs
 
-same-length-7 : tie.Need-same-length-7 Inv-loop μ-loop
-same-length-7 c =
+same-length-9 : tie.Need-same-length-9 Inv-loop μ-loop
+same-length-9 c =
     let f = c .before .before .before .before .before .before in
     f .fetch-next .kept .0 ∙ turn f .loop .inv .1
 
-same-length-8 : tie.Need-same-length-8 Inv-loop μ-loop
-same-length-8 c = search needs
+same-length-10 : tie.Need-same-length-10 Inv-loop μ-loop
+same-length-10 c = search needs
 
-returns-4 : tie.Need-returns-4 Inv-loop μ-loop
-returns-4 c =
+returns-5 : tie.Need-returns-5 Inv-loop μ-loop
+returns-5 c =
     let f = c .before .before .before .before .before .before in
     let t = turn f in
-    let came = by-refusal _ _ (held t) _ (sym (c .before .before .error .given .1) ∙ f .fetch-next .ensures .0) in
+    let came = by-refusal _ _ _ (held t) _ (sym (c .before .before .error .given .1) ∙ f .fetch-next .ensures .0) in
     rw (c .failed2 .ensures, f .fetch-next .ensures .1)
-    (stopped _ _ _ (held t) (ended (Failed _) (t .loop .at) (deeper (held t))) (below f) came _ refl ∙ t .loop .inv .3)
+    (stopped _ _ _ _ (held t) (stepTo (Ended (Failed _)) (t .loop .at) (deeper (held t))) (below f) came _ refl ∙ t .loop .inv .3)
 
 pub run-to-spec : {M : Type 1} → statement M
 run-to-spec =
@@ -258,7 +286,7 @@ run-to-spec =
     loop-holds
     slice-read-pc
     slice-read-if1
-    answer-requires
+    pause-requires
     same-length
     same-length-2
     returns
@@ -284,13 +312,18 @@ run-to-spec =
     enum-told-2
     loop-less
     loop-again
-    enum-told-3
-    answer-requires-2
+    enum-known-step
+    pause-requires-2
     same-length-5
     same-length-6
     returns-3
-    enum-known-error
-    failed-requires-2
+    enum-known-step-2
+    pause-requires-3
     same-length-7
     same-length-8
-    returns-4)
+    returns-4
+    enum-known-error
+    failed-requires-2
+    same-length-9
+    same-length-10
+    returns-5)

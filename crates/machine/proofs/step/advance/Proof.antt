@@ -18,9 +18,20 @@ same-length c = search needs
 same-length-2 : tie.Need-same-length-2
 same-length-2 c = search needs
 
+-- the places that the answer looks back to, each by its way from the next one
+abbrev followed : tie.After-settle → tie.After-follow
+followed s = s .before .before .before .before .before .before .before
+
+abbrev execution : tie.After-follow → tie.After-execute
+execution f = f .before .before .before .before .before .before .before
+
 returns : tie.Need-returns
 unfolding executed
-returns c = rw (← c .before .before .before .before .before .before .before .before .before .before .before .before .before .before .before .before .before .before .execute .ensures .0, ← c .before .before .before .before .before .before .before .before .before .before .before .before .before .before .before .before .before .before .execute .ensures .1, ← c .before .before .before .before .before .before .before .before .before .before .before .follow .ensures) (c .before .before .before .before .settle .ensures)
+returns c =
+    let s = c .before .before .before .before in
+    let f = followed s in
+    let e = execution f in
+    rw (← e .execute .ensures .0, ← e .execute .ensures .1, ← f .follow .ensures) (s .settle .ensures)
 
 pub advance-spec : {M : Type 1} → statement M
 advance-spec =

@@ -1,0 +1,5 @@
+pub mod Completing
+pub mod Printing
+pub mod Halts
+pub mod Turns
+pub mod Entering
