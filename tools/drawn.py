@@ -234,9 +234,9 @@ class Bounded(Search):
         return answer
 
 
-def is_short(sheet):
-    """Whether a sheet's search ends soon."""
-    number, asked = read_sheet(sheet)
+def is_short(sheet, bench=True):
+    """Whether a sheet's search ends soon; the bench program's limits can be left out."""
+    number, asked = read_sheet(sheet, bench)
     number = number or search_of(asked)[0]
     if number:
         return True

@@ -1,4 +1,5 @@
-"""A model of the scope paper: one executor on its row, the entries over one row, scoring, whole searches, and sheets.
+"""A model of the scope paper: one executor on its row, the entries over one row, scoring, whole searches, and sheets; and of
+document 02's run at the counter.
 
 A second reading of the paper that shares nothing with the Rattle code. The tools that make the lists in crates/*/data ask it
 what each case must come to; mksheet and explain have from it what a sheet is, what refuses it, and the instructions.
@@ -16,11 +17,14 @@ PC, BREAK, DEPTH, LIMIT, LOG_COUNT, HEADER = range(6)
 REGISTERS = 32
 X0, SP, T0, T1, A0, A1, A2, A7 = 0, 2, 5, 6, 10, 11, 12, 17
 
-# Answers. Bugs are 41 to 45; refusals 1, 4, 5, 6, 7 and 9.
+# Answers. Bugs are 41 to 45; refusals of entries over one row 1, 4, 5, 6, 7 and 9.
 CLEAN, NOT_SUPPORTED, INVALID, LIMIT_REACHED, PC_OUTSIDE, TAPE_EMPTY, LOG_FULL = 0, 20, 21, 22, 23, 24, 25
 ZERO_DIVISOR, UNINITIALISED, UNALIGNED, OUT_OF_RANGE, EXIT_CODE = 41, 42, 43, 44, 45
+REFUSALS = (1, 4, 5, 6, 7, 9)
 BUGS = range(ZERO_DIVISOR, EXIT_CODE + 1)
 ERRORS = (NOT_SUPPORTED, INVALID, PC_OUTSIDE, TAPE_EMPTY, LOG_FULL)
+# An error where a write has an output, at the counter alone.
+OUTPUT_FULL = 71
 OPERAND, WRITE_CALL = 1, 2
 
 BRK, READ, WRITE, EXIT = 214, 63, 64, 93
@@ -255,7 +259,11 @@ class Executor:
         first, count = buffer // 8, (size + buffer % 8 + 7) // 8
         if any(self.word(m) is None for m in range(first, first + count)):
             raise End(UNINITIALISED, WRITE_CALL)
+        self.put_out(buffer, size)
         self.set_register(A0, size)
+
+    def put_out(self, buffer, size):
+        """A write's bytes go nowhere."""
 
     def call_exit(self):
         value = self.base(A0, 9)
@@ -315,6 +323,36 @@ def new_row(memory, log, segments):
     (code, _), (data, content) = segments
     words[PC], words[BREAK] = code, data + len(content)
     return words, marks
+
+
+# --- a run at the counter ---
+
+Printed = collections.namedtuple("Printed", "number pc value used written")
+
+
+class Printer(Executor):
+    """An executor whose writes go to an output: from the buffer's exact byte on, and whole or not at all."""
+
+    def __init__(self, words, marks, memory, log, tape, output):
+        super().__init__(words, marks, memory, log, tape)
+        self.output, self.written = output, 0
+
+    def put_out(self, buffer, size):
+        if size > len(self.output) - self.written:
+            raise End(OUTPUT_FULL)
+        for address in range(buffer, buffer + size):
+            self.output[self.written] = self.word(address // 8).to_bytes(8, "little")[address % 8]
+            self.written += 1
+
+
+def run_program(words, marks, memory, log, step, segments, tape, output):
+    """The answer to an order; words, marks and output are changed to what is left of them."""
+    number = sizes_refused(memory, log, len(words), len(marks)) or segments_refused(memory, segments)
+    if number:
+        return Printed(number, 0, 0, 0, 0)
+    words[:], marks[:] = new_row(memory, log, segments)
+    printer = Printer(words, marks, memory, log, tape, output)
+    return Printed(*printer.run(step), printer.written)
 
 
 # --- scoring ---
@@ -558,9 +596,8 @@ def fnv1a(content):
     return h
 
 
-def store_lines(search):
-    """Digests of the words and of the marks that a search leaves, for hosts."""
-    words, marks = search.store()
+def store_lines(words, marks):
+    """Digests of the words and of the marks that a call leaves, for hosts."""
     return f"words {fnv1a(struct.pack(f'<{len(words)}Q', *words)):016x}\nmarks {fnv1a(bytes(marks)):016x}\n"
 
 
@@ -573,4 +610,27 @@ def printed(sheet, bench=True):
     if number:
         return lines_of(Found(number, 0, 0, 0, 0))
     found = search.search()
-    return lines_of(found, search.inputs(found)) + ("" if bench else store_lines(search))
+    return lines_of(found, search.inputs(found)) + ("" if bench else store_lines(*search.store()))
+
+
+# The output that a host lends where it runs a sheet at the counter, and what stands in it before.
+ORDER_OUTPUT, ORDER_BYTE = 1024, 0xEE
+
+
+def order_lines(answer):
+    return "answer {} pc {} value {}\nused {}\nwritten {}\n".format(*answer)
+
+
+def printed_order(sheet):
+    """What a host prints for a sheet's program, tape, step, memory and log at the counter: the answer, and digests of row and output."""
+    number, asked = read_sheet(sheet, bench=False)
+    if number:
+        return order_lines(Printed(number, 0, 0, 0, 0))
+    o, output = asked.options, bytearray([ORDER_BYTE]) * ORDER_OUTPUT
+    # what is refused for its sizes needs no row
+    sizes = row_sizes(o.memory, o.log) if o.memory <= ENTRY_MEMORY and o.log <= ENTRY_LOG else (0, 0)
+    words, marks = ([0] * size for size in sizes)
+    answer = run_program(words, marks, o.memory, o.log, o.step, asked.segments, asked.tape, output)
+    if answer.number in REFUSALS:
+        return order_lines(answer)
+    return order_lines(answer) + store_lines(words, marks) + f"output {fnv1a(output):016x}\n"

@@ -10,7 +10,8 @@ from commands import need_to_run
 from lists import need
 from model import A0, A1, A2, BRK, EXIT, READ, SP, T0, T1, WRITE, X0
 
-PROGRAMS = os.path.join(os.path.dirname(os.path.abspath(__file__)), "labels.d")
+TOOLS = os.path.dirname(os.path.abspath(__file__))
+PROGRAMS = os.path.join(TOOLS, "labels.d")
 
 AS, LD, OBJCOPY = ("riscv64-linux-gnu-" + tool for tool in ("as", "ld", "objcopy"))
 PACKAGE = "binutils-riscv64-linux-gnu"
@@ -77,15 +78,15 @@ def numbers_of(text):
 def options_of(line):
     """The options of a line `#:`, each a list of numbers."""
     given = dict(option.split("=") for option in line.removeprefix(DIRECTIVE).split())
-    known = {"tape", "runs", "memory", "log", "code", "data"}
+    known = {"tape", "runs", "memory", "log", "code", "data", "output"}
     need(set(given) <= known, f"no such option in '{line}'")
     return {key: numbers_of(text) for key, text in given.items()}
 
 
-def label_programs(folder):
-    """Name, code, data and the options of each of its cases."""
-    for file in sorted(os.listdir(PROGRAMS)):
-        with open(os.path.join(PROGRAMS, file)) as source:
+def label_programs(folder, programs=PROGRAMS):
+    """Name, code, data and the options of each of its cases, for each of these programs."""
+    for file in sorted(os.listdir(programs)):
+        with open(os.path.join(programs, file)) as source:
             text = source.read()
         code, data = (padded(content) for content in assemble(folder, text))
         lines = [line for line in text.splitlines() if line.startswith(DIRECTIVE)]
@@ -181,3 +182,32 @@ def varied_texts(rng, address):
         kinds = [random_call, random_access, random_jump, random_arithmetic, random_loop, lambda r: random_patch(r, address)]
         texts += rng.choice(kinds)(rng)
     return texts + rng.choice([telling(f"x{rng.choice(POOL)}")] * 4 + [LEAVE, []])
+
+
+# --- random programs that write ---
+
+
+def write(buffer, size):
+    return ["li a7, WRITE", "li a0, 1", f"li a1, {buffer}", f"li a2, {size}", "ecall"]
+
+
+PRINTED_AT = 0x280
+
+
+def printed_data(rng):
+    return PRINTED_AT, b"".join(random_word(rng).to_bytes(8, "little") for _ in range(rng.randrange(3, 8)))
+
+
+def random_write(rng):
+    """Most often from such data, now and then from anywhere."""
+    buffer = rng.choice([PRINTED_AT + rng.randrange(40)] * 8 + [rng.choice(PLACES)])
+    return write(buffer, rng.choice(SIZES))
+
+
+def printing_texts(rng):
+    """Writes with something else after each of them."""
+    texts = [f"li x{n}, {rng.choice(PLACES + SIZES)}" for n in POOL[2:] if rng.randrange(5)]
+    for _ in range(rng.randrange(1, 5)):
+        kinds = [random_call, random_access, random_jump, random_arithmetic, random_arithmetic, random_loop]
+        texts += random_write(rng) + rng.choice(kinds)(rng)
+    return texts + rng.choice([LEAVE, LEAVE, random_write(rng) + LEAVE, telling("a0"), []])

@@ -1,6 +1,10 @@
 //! A sheet of any size: reads one from standard input, searches with the library, and prints what the bench program prints for a sheet
 //! within its limits. With --store, digests of the store that the search leaves follow, unless the sheet is refused.
 //!
+//! With --order, the sheet's program is run at the counter instead, on its tape as the order and for at most its step, with its memory and
+//! its log; states, selection, rounds and ratio have no part in that. The answer is printed, with the input words taken and the bytes
+//! written, and digests of the row and of the output, unless the sheet is refused.
+//!
 //! What a sheet is, and its refusals 51 to 54, is in docs/SHEETS.md; here none of the bench program's limits hold. All other refusals
 //! are the library's.
 
@@ -14,12 +18,18 @@ use std::{
     io::{self, Read, Write},
     process::exit,
 };
-use tavvinur::{inputs, row_marks, row_words, search, Answer, Options, Program};
+use tavvinur::{
+    inputs, row_marks, row_words, run_program, search, Answer, Options, Printed, Program,
+};
 
 const FIELD_BYTES: usize = 128;
 const MOST_STATES: u64 = 4096;
 const MOST_MEMORY: u64 = 1 << 20;
 const MOST_LOG: u64 = 65_536;
+
+/// The output of an order, and what stands in it before.
+const OUTPUT_BYTES: usize = 1024;
+const UNTOUCHED: u8 = 0xee;
 
 /// Refusals of a sheet.
 const TOO_SHORT: u64 = 51;
@@ -167,20 +177,73 @@ fn searched(sheet: &Sheet, with_store: bool) -> String {
     text
 }
 
+fn order_lines(printed: &Printed) -> String {
+    format!(
+        "answer {} pc {} value {}\nused {}\nwritten {}\n",
+        printed.number, printed.pc, printed.value, printed.used, printed.written
+    )
+}
+
+fn refused_order(number: u64) -> String {
+    let (pc, value, used, written) = (0, 0, 0, 0);
+    order_lines(&Printed {
+        number,
+        pc,
+        value,
+        used,
+        written,
+    })
+}
+
+fn ran(sheet: &Sheet) -> String {
+    let Sheet {
+        options,
+        log,
+        program,
+        tape,
+    } = sheet;
+    let one = Options {
+        amount_of_states: 1,
+        ..*options
+    };
+    let (mut words, mut marks) = store(&one, *log);
+    let mut output = vec![UNTOUCHED; OUTPUT_BYTES];
+    let printed = run_program(
+        &mut words,
+        &mut marks,
+        options.memory_size,
+        *log,
+        options.step_size,
+        program,
+        tape,
+        &mut output,
+    );
+    let mut text = order_lines(&printed);
+    if !(1..=7).contains(&printed.number) {
+        text += &digests(&words, &marks);
+        text += &format!("output {:016x}\n", digest(output.into_iter()));
+    }
+    text
+}
+
 fn main() -> io::Result<()> {
-    let with_store = match std::env::args().skip(1).collect::<Vec<_>>().as_slice() {
-        [] => false,
-        [option] if option == "--store" => true,
+    let arguments = std::env::args().skip(1).collect::<Vec<_>>();
+    let (with_store, order) = match arguments.iter().map(String::as_str).collect::<Vec<_>>()[..] {
+        [] => (false, false),
+        ["--store"] => (true, false),
+        ["--order"] => (false, true),
         _ => {
-            eprintln!("usage: sheet [--store] < SHEET");
+            eprintln!("usage: sheet [--store | --order] < SHEET");
             exit(2);
         }
     };
     let mut bytes = Vec::new();
     io::stdin().lock().read_to_end(&mut bytes)?;
-    let text = match read(&bytes) {
-        Err(number) => refused(number),
-        Ok(sheet) => searched(&sheet, with_store),
+    let text = match (read(&bytes), order) {
+        (Err(number), false) => refused(number),
+        (Err(number), true) => refused_order(number),
+        (Ok(sheet), false) => searched(&sheet, with_store),
+        (Ok(sheet), true) => ran(&sheet),
     };
     io::stdout().lock().write_all(text.as_bytes())
 }

@@ -8,12 +8,12 @@ use crate::columns::DATA_ADDRESS;
 use crate::columns::DIGEST;
 use crate::columns::NUMBER;
 use crate::columns::SIZES;
-use crate::sizes::Sizes;
-use crate::sizes::sizes_at;
 use checks::refusal::Checked;
 use replay_lists::columns::bytes_at;
 use replay_lists::columns::number_at;
 use replay_lists::digest::digest_of;
+use replay_lists::sizes::Sizes;
+use replay_lists::sizes::sizes_at;
 
 const ACCEPTED: u64 = 0;
 

@@ -5,7 +5,6 @@ mod columns;
 mod creation;
 mod list;
 mod running;
-mod sizes;
 
 fn main() {
     let fd = os::open_read(b"cases");

@@ -1,11 +1,11 @@
 // A run of a row, changed before it as a line says.
 ghost use Prim.Native.Nat.{_≤_};
 ghost use lib.ListN.{length};
-use crate::sizes::Sizes;
-use crate::sizes::sizes_at;
 use answers::answer::Answer;
 use replay_lists::columns::number_at;
 use replay_lists::digest::digest_of;
+use replay_lists::sizes::Sizes;
+use replay_lists::sizes::sizes_at;
 
 // Columns, counted from the first of a run, where the sizes stand.
 const CHANGE: usize = 4;

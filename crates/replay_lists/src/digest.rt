@@ -44,7 +44,8 @@ fn wide(mark: u8) -> u64
     mark as u64
 }
 
-fn with_marks(before: u64, marks: &[u8]) -> u64
+// A digest with marks, or other bytes, after it.
+pub fn with_marks(before: u64, marks: &[u8]) -> u64
     ensures { λ r. ⌜ r ≡ putAll before (now (marks .entry)) ⌝ }
 {
     let mut digest = before;

@@ -5,4 +5,5 @@ pub mod digest;
 pub mod float;
 mod line;
 pub mod reader;
+pub mod sizes;
 pub mod tally;

@@ -1,9 +1,9 @@
-// What an entry is told of its row, and how much is lent.
+// What an entry over one row is told of it, and how much is lent.
 ghost use Prim.Native.Nat.{_≤_};
 ghost use lib.ListN.{length};
-use replay_lists::columns::is_length;
-use replay_lists::columns::length_at;
-use replay_lists::columns::number_at;
+use crate::columns::is_length;
+use crate::columns::length_at;
+use crate::columns::number_at;
 
 // Columns, counted from the first of the sizes.
 const LOG: usize = 1;
@@ -12,16 +12,16 @@ const LENT_WORDS: usize = 2;
 
 const LENT_MARKS: usize = 3;
 
-pub(crate) struct Sizes {
-    pub(crate) memory: u64,
-    pub(crate) log: u64,
-    pub(crate) words: usize,
-    pub(crate) marks: usize,
+pub struct Sizes {
+    pub memory: u64,
+    pub log: u64,
+    pub words: usize,
+    pub marks: usize,
     // whether there is as much as the line lends
-    pub(crate) fit: bool,
+    pub fit: bool,
 }
 
-pub(crate) fn sizes_at(numbers: &[u64], at: usize, words: &[u64], marks: &[u8]) -> Sizes
+pub fn sizes_at(numbers: &[u64], at: usize, words: &[u64], marks: &[u8]) -> Sizes
     requires { ⌜ at ≤ 2000 ⌝ }
     ensures { λ r. ⌜ (r .words ≤ length (now (words .entry))) × (r .marks ≤ length (now (marks .entry))) ⌝ }
 {
