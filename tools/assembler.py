@@ -5,7 +5,8 @@ import re
 from commands import Mistake
 from sheets import INSTEAD, INSTRUCTIONS, NAMES, encode, span
 
-# What an instruction or a number of the source came to: where, in how many bytes, its bits, and the line with its number.
+# What an instruction, a number or a piece of a text of the source came to: where, in how many bytes, its bits, and the line with
+# its number.
 Place = collections.namedtuple("Place", "address size word at line")
 
 REGISTERS = {name: number for number, name in enumerate(NAMES)} | {f"x{number}": number for number in range(32)} | {"fp": 8}
@@ -17,6 +18,8 @@ SHORT = {
     "beqz": ("rs,target", "beq {},x0,{}"),
 }
 DATA = {".word": 4, ".dword": 8}
+TEXT = r'"(?:[^"\\]|\\.)*"'
+ESCAPES = {r"\n": "\n", r"\\": "\\", r"\"": '"'}
 DIGITS = r"(?:0[xX][0-9a-fA-F]{1,99}|[0-9]{1,99})"
 NUMBER = "[-+]?" + DIGITS
 NAME = r"[A-Za-z_.$][\w.$]*"
@@ -129,10 +132,34 @@ def define(names, label, value):
     names[label] = value
 
 
+def unescaped(escape):
+    if escape not in ESCAPES:
+        raise Mistake(f"unknown escape '{escape}'; there are {' '.join(ESCAPES)}")
+    return ESCAPES[escape]
+
+
+def characters(text):
+    """The bytes of .ascii: texts in quotes, with commas between them."""
+    if not re.fullmatch(rf"{TEXT}(?:\s*,\s*{TEXT})*", text):
+        raise Mistake('expected .ascii "text"')
+    texts = [quoted[1:-1] for quoted in re.findall(TEXT, text)]
+    return re.sub(r"\\.", lambda escape: unescaped(escape[0]), "".join(texts)).encode()
+
+
+def pieces(content):
+    """Bytes as pairs of size and bytes, a word at a time."""
+    return [(len(piece), piece) for piece in (content[at:at + 8] for at in range(0, len(content), 8))]
+
+
+def check_place(what, address, size):
+    if address % size:
+        raise Mistake(f"{what} at address {address}, no multiple of {size}: put .balign 8 before it")
+
+
 def items_of(line, address, names):
-    """What a line stands for, as pairs of size and text; its labels and its .equ become names."""
-    text = re.split("[#;]", line, maxsplit=1)[0].strip()
-    while ":" in text:
+    """What a line stands for, as pairs of size and what stands there; its labels and its .equ become names."""
+    text = re.match(rf"(?:{TEXT}|[^#;])*", line)[0].strip()  # without its comment
+    while ":" in text.partition('"')[0]:
         label, _, text = (piece.strip() for piece in text.partition(":"))
         define(names, label, address)
     mnemonic, *rest = text.split(None, 1) or [""]
@@ -145,17 +172,24 @@ def items_of(line, address, names):
     if mnemonic == ".balign":
         if rest != "8":
             raise Mistake("expected .balign 8")
-        return [(4, "addi x0,x0,0")] if address % 8 else []
+        nop = [(4, "addi x0,x0,0")] if -address % 8 >= 4 else []
+        return pieces(bytes(-address % 4)) + nop
+    if mnemonic == ".ascii":
+        return pieces(characters(rest))
     if mnemonic in DATA:
         size = DATA[mnemonic]
-        if address % size:
-            raise Mistake(f"{mnemonic} at address {address}, no multiple of {size}: put .balign {size} before it")
+        check_place(mnemonic, address, size)
         return [(size, (mnemonic, number.strip())) for number in rest.split(",")]
-    return [(4, made) for made in expand(mnemonic, rest, here)] if mnemonic else []
+    instructions = expand(mnemonic, rest, here) if mnemonic else []
+    if instructions:
+        check_place(mnemonic, address, 4)
+    return [(4, made) for made in instructions]
 
 
 def word_of(made, size, address, names):
-    """The bits of an instruction or of a number of the data."""
+    """The bits of an instruction, of a piece of a text or of a number of the data."""
+    if isinstance(made, bytes):
+        return int.from_bytes(made, "little")
     here = {**names, ".": address}
     if isinstance(made, str):
         return instruction(made, address, here)

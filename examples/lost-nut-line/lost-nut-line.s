@@ -7,12 +7,13 @@
 #   PRINT  prints the labels and ends
 #
 # The mistake: BACK after COPY takes a label away, but clears the nut line too. So NUTS COPY BACK PRINT prints a cake
-# with nuts on a label without a nut line. The program looks before it prints, and exits with 1 for such a label.
+# with nuts on a label without a nut line. The program looks at what it has printed, and exits with 1 for such a label.
 
-# The search is a matter of luck: with these options seeds 2 to 25 find it, seed 1 does not.
-#: --step 60 --selection 6 --rounds 60 --tape-words 1500 --seed 2
+# The search is a matter of luck: with these options seeds 1 to 183 find it, seed 184 does not. Seed 4 does so with few keys.
+#: --step 60 --selection 6 --rounds 60 --tape-words 1500 --seed 4
 
     .equ READ, 63
+    .equ WRITE, 64
     .equ EXIT, 93
     .equ PRESSED, 0x300     # a key is read to here
 
@@ -78,6 +79,23 @@ done:
     j next
 
 print:
+    li a7, WRITE
+label:
+    li a0, 1
+    li a1, name
+    li a2, 12               # characters, the line feed among them
+    ecall
+    beqz s1, printed
+    li a0, 1
+    li a1, nut_line
+    li a2, 14
+    ecall
+printed:
+    addi s2, s2, -1
+    beqz s2, check
+    j label
+
+check:
     li a7, EXIT
     li a0, 0
     beqz s0, leave          # no nuts, no nut line needed
@@ -89,3 +107,8 @@ sleep:
     li a7, EXIT
     li a0, 0
     ecall
+
+name:
+    .ascii "Carrot cake\n"
+nut_line:
+    .ascii "contains nuts\n"

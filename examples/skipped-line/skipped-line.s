@@ -1,6 +1,6 @@
 # A printer that prints a line that nobody wrote.
 #
-# A label has four lines of eight characters, from the cake's name down to the allergens. The clerk keys which line to
+# A label has four lines of seven characters, from the cake's name down to the allergens. The clerk keys which line to
 # write, in any order, or PRINT. The printer prints all lines down to the lowest one that was written.
 #
 # The mistake: a line between may have been skipped. Whatever was left in the printer's memory comes out there, on a real
@@ -12,7 +12,7 @@
     .equ WRITE, 64
     .equ EXIT, 93
     .equ PRESSED, 0x300     # a key is read to here
-    .equ LABEL, 0x340       # line n of the label stands at LABEL + 8 n
+    .equ LABEL, 0x340       # line n of the label stands at LABEL + 8 n, with its line feed
 
     .equ KEYS, 8
     .equ LINES, 4           # keys 0 to 3 write a line, the others print
@@ -37,7 +37,7 @@ next:
 
     li t0, 8
     mul t1, s1, t0          # where the line stands
-    ld t2, text(x0)
+    ld t2, texts(t1)
     sd t2, LABEL(t1)
     sltu t0, s1, s0         # is it above the lowest line so far?
     beqz t0, lower
@@ -58,5 +58,5 @@ print:
     ecall
 
     .balign 8
-text:
-    .dword 0x2E2E2E2E2E2E2E2E   # eight dots stand for any text
+texts:
+    .ascii "Stollen\n", "1 pound\n", "raisins\n", "almonds\n"
