@@ -29,7 +29,8 @@ preceded bytes x = record { finished = x .finished; output = bytes ++ x .output 
 unfoldable pub servedBy : (ℕ → ℕ → Row → Served) → ℕ → ℕ → Step → ℕ → Row → Served
 servedBy more room pc step.Running used r = more room used r
 servedBy more room pc (step.Write buffer size) used r =
-    cond (leb size room) (preceded (bytesFrom size buffer r) (more (room - size) used (completed size r))) (silent (stops (Ended (Failed OutputFull)) pc used r))
+    cond (leb size room) (preceded (bytesFrom size buffer r) (more (room - size) used (completed size r)))
+    (silent (stops (Ended (Failed OutputFull)) pc used r))
 servedBy more room pc (step.Ended o) used r = silent (stops (Ended o) pc used r)
 
 -- at most n instructions, room being what is left of the output
