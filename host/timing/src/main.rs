@@ -19,6 +19,7 @@ mod mixed;
 mod original;
 mod plain;
 mod proved;
+mod straight;
 #[path = "../../rust/tavvinur.rs"]
 mod tavvinur;
 
@@ -74,6 +75,13 @@ pub const MIXED: Program = Program {
 pub const PLAIN: Program = Program {
     code_address: 0,
     code: &plain::PLAIN_CODE,
+    data_address: 0x200,
+    data: &[],
+};
+
+pub const STRAIGHT: Program = Program {
+    code_address: 0,
+    code: &straight::STRAIGHT_CODE,
     data_address: 0x200,
     data: &[],
 };
@@ -144,6 +152,8 @@ fn runs() {
     compare_runs("plain", &PLAIN, proved::run);
     compare_runs("label", &LABEL, proved::run);
     compare_runs("label, printed at the counter", &LABEL, proved::print);
+    compare_runs("straight", &STRAIGHT, proved::run);
+    compare_runs("straight, printed at the counter", &STRAIGHT, proved::print);
 }
 
 fn cases() -> Vec<Case> {

@@ -38,7 +38,7 @@ pub fn run(program: &Program, memory: u64, instructions: u32) -> Duration {
     time
 }
 
-/// A run at the counter, into an output whose pages have been touched: a byte to eight instructions is more than LABEL writes.
+/// A run at the counter, into an output whose pages have been touched: a byte to eight instructions is more than the programs timed write.
 pub fn print(program: &Program, memory: u64, instructions: u32) -> Duration {
     let Store {
         mut words,
