@@ -1,4 +1,3 @@
-pub mod Known
 pub mod Kept
 pub mod Turns
 pub mod Handing

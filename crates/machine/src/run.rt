@@ -3,6 +3,7 @@ ghost use mathlib.Core.Path.{_≡_};
 ghost use Prim.Native.Nat.{_+_, _-_, _<_, _^_};
 ghost use Rattle.answers.specs.declared.outcome.Outcome.the-variants.{Failed};
 ghost use Rattle.rows.specs.Rows.{row, Shape, depthOf, limitOf, memoryIn};
+ghost use Rattle.known.specs.Table.{Faithful};
 ghost use Rattle.machine.specs.Runs.{runOf, finishedAs};
 ghost use Rattle.machine.specs.Pauses.{haltedAs, pauseOf, pausedOf};
 ghost use Rattle.machine.specs.Handing.{haltedFor, progressOf};
@@ -14,10 +15,9 @@ use answers::error::ExecutorError;
 use answers::outcome::Outcome;
 use answers::outcome::Progress;
 use calls::step::Step;
-use riscu::decode::decode;
+use known::decode_known;
+use known::nothing_known;
 use riscu::instruction::Decoded;
-use riscu::instruction::INSTRUCTION_SIZE;
-use riscu::instruction::Instruction;
 use rows::row::DEPTH;
 use rows::row::LIMIT;
 use rows::row::PC;
@@ -49,14 +49,6 @@ fn failed(error: ExecutorError, pc: u64, used: usize) -> Paused
     pause(Step::Ended(Outcome::Failed(error)), pc, used)
 }
 
-// Words that were decoded before are kept with their instructions, by where they were fetched. An instruction depends on
-// its word alone, so where a program changes its code, another word is met, and nothing has to be told of its stores.
-// There is room for more than the loops of a label program have.
-const KNOWN: usize = 64;
-
-// The word of ecall, which every entry has at first.
-const ECALL: u32 = 0x73;
-
 // Runs until depth is at the limit; write calls are handed out, or completed: their bytes go nowhere then. There is one loop
 // for both, since a second one, or a second caller of an instruction, makes either of them slower by half.
 fn run_to(
@@ -65,16 +57,16 @@ fn run_to(
     limit: u64,
     tape: &[u64],
     used: usize,
+    known: &mut [u64],
     handing: bool,
 ) -> Paused
     requires { ⌜ Shape (now words) (now marks) ⌝ }
+    requires { ⌜ Faithful (now known) ⌝ }
     ensures { λ r. ⌜ haltedAs (now (words .exit)) (now (marks .exit)) r
         ≡ haltedFor handing (limit - depthOf (row (now (words .entry)) (now (marks .entry)))) (now (tape .entry)) used
         (row (now (words .entry)) (now (marks .entry))) ⌝ }
+    ensures { λ _. ⌜ Faithful (now (known .exit)) ⌝ }
 {
-    let ecall = Instruction::Ecall;
-    let mut known = [ECALL; KNOWN];
-    let mut instructions = [ecall; KNOWN];
     let mut at = used;
     loop {
         let pc = words[PC];
@@ -83,15 +75,9 @@ fn run_to(
         }
         match fetch_next(words, marks) {
             Fetched::Word(word) => {
-                let entry = (pc / INSTRUCTION_SIZE % KNOWN as u64) as usize;
-                if known[entry] != word {
-                    let Decoded::Valid(instruction) = decode(word) else {
-                        return failed(ExecutorError::InvalidInstructionEncoding, pc, at);
-                    };
-                    known[entry] = word;
-                    instructions[entry] = instruction;
-                }
-                let instruction = instructions[entry];
+                let Decoded::Valid(instruction) = decode_known(known, pc, word) else {
+                    return failed(ExecutorError::InvalidInstructionEncoding, pc, at);
+                };
                 let stepped = advance(words, marks, instruction, tape, at, handing);
                 at = stepped.used;
                 let step = stepped.step;
@@ -131,7 +117,8 @@ pub fn run(words: &mut [u64], marks: &mut [u8], step: u32, tape: &[u64], used: u
 {
     let limit = words[LIMIT] + step as u64;
     words[LIMIT] = limit;
-    let paused = run_to(words, marks, limit, tape, used, false);
+    let mut known = nothing_known();
+    let paused = run_to(words, marks, limit, tape, used, &mut known, false);
     let came_to = paused.step;
     Ran {
         progress: progress_of(came_to),
@@ -140,21 +127,25 @@ pub fn run(words: &mut [u64], marks: &mut [u8], step: u32, tape: &[u64], used: u
     }
 }
 
-// Runs at most `step` instructions more, up to a write call, which the caller completes by `write_to`, or not at all.
+// Runs at most `step` instructions more, up to a write call, which the caller completes by `write_to`, or not at all. What the run decodes
+// it keeps in a table of the caller's, for the next call.
 pub fn run_to_write(
     words: &mut [u64],
     marks: &mut [u8],
     step: u32,
     tape: &[u64],
     used: usize,
+    known: &mut [u64],
 ) -> Paused
     requires { ⌜ Shape (now words) (now marks) ⌝ }
     requires { ⌜ limitOf (row (now words) (now marks)) + step < 2 ^ 64 ⌝ }
+    requires { ⌜ Faithful (now known) ⌝ }
     ensures { λ r. ⌜ haltedAs (now (words .exit)) (now (marks .exit)) r
         ≡ pausedOf step (now (tape .entry)) used (row (now (words .entry)) (now (marks .entry))) ⌝ }
     ensures { λ r. ⌜ HandedOut (memoryIn (now (marks .entry))) (r .step) ⌝ }
+    ensures { λ _. ⌜ Faithful (now (known .exit)) ⌝ }
 {
     let limit = words[LIMIT] + step as u64;
     words[LIMIT] = limit;
-    run_to(words, marks, limit, tape, used, true)
+    run_to(words, marks, limit, tape, used, known, true)
 }

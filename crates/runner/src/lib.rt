@@ -18,6 +18,7 @@ use answers::outcome::Progress;
 use calls::step::Step;
 use checks::refusal::Checked;
 use executor::RunAnswer;
+use known::nothing_known;
 use machine::run::Ran;
 use machine::run::run_to_write;
 use machine::write::write_to;
@@ -74,11 +75,12 @@ fn serve(words: &mut [u64], marks: &mut [u8], step: u32, input: &[u64], output: 
         (servedOf step (now (input .entry)) (length (now (output .entry))) 0 (row (now (words .entry)) (now (marks .entry))) .output)
         (r .written) (now (output .exit)) ⌝ }
 {
+    let mut known = nothing_known();
     let mut more = step;
     let mut used = 0;
     let mut at = 0;
     loop {
-        let paused = run_to_write(words, marks, more, input, used);
+        let paused = run_to_write(words, marks, more, input, used, &mut known);
         let pc = paused.pc;
         used = paused.used;
         more = 0;

@@ -3,6 +3,7 @@ use mathlib.Core.Path.{_≡_, _∙_, subst}
 use Prim.Native.Nat.{_+_, _-_, _<_, _^_}
 use native.Mathlib.Omega.{arith}
 use lib.ListN.{length}
+use Rattle.known.specs.Table.{Faithful}
 use Rattle.rows.specs.Rows.{row, Shape, depthOf, limitOf, memoryIn}
 use Rattle.loader.proofs.Lengths.{same-shape}
 use Rattle.machine.specs.HandedOut.{HandedOut}
@@ -12,13 +13,14 @@ use Rattle.runner.proofs.serve.Statement.{statement}
 use Rattle.runner.proofs.serve.Tie as tie
 
 abbrev Inv-loop : tie.InvT-loop
-Inv-loop words₀ marks₀ step input output₀ more₀ used₀ at₀ words marks output more used at =
+Inv-loop words₀ marks₀ step input output₀ known₀ more₀ used₀ at₀ words marks output known more used at =
     Shape words marks × (length words ≡ length words₀) × (length marks ≡ length marks₀) × (length output ≡ length output₀)
     × (limitOf (row words marks) + more < 2 ^ 64)
     × Serves (servedOf step input (length output₀) 0 (row words₀ marks₀)) input output₀ more used at output (row words marks)
+    × Faithful known
 
 abbrev μ-loop : tie.MeasureT-loop
-μ-loop words₀ marks₀ step input output₀ more₀ used₀ at₀ words marks output more used at =
+μ-loop words₀ marks₀ step input output₀ known₀ more₀ used₀ at₀ words marks output known more used at =
     limitOf (row words marks) + more - depthOf (row words marks)
 
 -- ---- the places that the answers look back to, each by its way from the next one
@@ -35,10 +37,10 @@ abbrev Print : Type 0
 Print = tie.After-print Inv-loop μ-loop
 
 abbrev turn : Run → Turn
-turn h = h .before .before .before
+turn h = h .before .before .before .before
 
 abbrev run : Write → Run
-run w = w .before .before .before .before .before .before
+run w = w .before .before .before .before .before .before .before
 
 abbrev write : Print → Write
 write p = p .before .before .before .before .before .before
@@ -47,18 +49,24 @@ abbrev printed : tie.After-slice-known8 Inv-loop μ-loop → Print
 printed c = c .before .before .before .before .before .before
 
 abbrev at-limit : tie.After-enum-told Inv-loop μ-loop → Run
-at-limit e = e .before .before .before .before .before .before
+at-limit e = e .before .before .before .before .before .before .before
 
 abbrev at-end : tie.After-came-to2 Inv-loop μ-loop → Run
-at-end e = e .before .before .before .before .before .before
+at-end e = e .before .before .before .before .before .before .before
+
+nothing-known-requires : tie.Need-nothing-known-requires Inv-loop μ-loop
+nothing-known-requires c κs = search needs
 
 loop-holds : tie.Need-loop-holds Inv-loop μ-loop
-loop-holds c = (search needs, search needs, search needs, search needs, search needs, begins _ _ _ _)
+loop-holds c = (search needs, search needs, search needs, search needs, search needs, begins _ _ _ _, c .nothing-known .ensures)
+
+slice-aggregate-run-to-write : tie.Need-slice-aggregate-run-to-write Inv-loop μ-loop
+slice-aggregate-run-to-write c = search needs
 
 run-to-write-requires : tie.Need-run-to-write-requires Inv-loop μ-loop
 run-to-write-requires c κs =
-    let t = c .before .before in
-    (t .loop .inv .0, t .loop .inv .4)
+    let t = c .before .before .before in
+    (t .loop .inv .0, (t .loop .inv .4, t .loop .inv .6))
 
 enum-told : tie.Need-enum-told Inv-loop μ-loop
 enum-told c = search needs
@@ -116,7 +124,7 @@ print-requires c κs =
     let w = c .before .before .before .before .before in
     let h = run w in
     let t = turn h in
-    let inside = subst (HandedOut (memoryIn (t .loop .marks))) (w .came-to .given .1) (h .run-to-write .ensures .1) in (
+    let inside = subst (HandedOut (memoryIn (t .loop .marks))) (w .came-to .given .1) (h .run-to-write .ensures .1 .0) in (
       same-shape _ _ _ _ (h .run-to-write .kept .0) (h .run-to-write .kept .1 .0) (t .loop .inv .0),
       (omega (arith, inside, h .run-to-write .kept), omega (arith, c .before .before .before .if1 .left, t .loop .inv .5 .wrote .room, t .loop .inv .3)),
     )
@@ -141,6 +149,7 @@ loop-again c =
       p .print .kept .1 .1 .1 .1 .0 ∙ t .loop .inv .3,
       omega (arith, limit, t .loop .inv .4),
       turned (t .loop .inv .5) (t .loop .inv .0) (h .run-to-write .ensures .0) (write p .came-to .given .1) (p .print .ensures .0) (p .print .ensures .1),
+      h .run-to-write .ensures .1 .1,
     )
 
 enum-known-came-to-2 : tie.Need-enum-known-came-to-2 Inv-loop μ-loop
@@ -173,7 +182,9 @@ serve-spec =
     (tie.spec
     Inv-loop
     μ-loop
+    nothing-known-requires
     loop-holds
+    slice-aggregate-run-to-write
     run-to-write-requires
     enum-told
     ended-requires

@@ -9,7 +9,7 @@ use Rattle.machine.proofs.run.run_to_write.Tie as tie
 
 -- the row that the run was given, from the call of its loop
 abbrev given : tie.After-run-to → Row
-given l = let start = l .before .before .before .before .before .before .before in row (start .args .words .now) (start .args .marks .now)
+given l = let start = l .before .before .before .before .before .before .before .before .before in row (start .args .words .now) (start .args .marks .now)
 
 slice-read-limit : tie.Need-slice-read-limit
 slice-read-limit c = search needs
@@ -24,16 +24,19 @@ run-to-requires : tie.Need-run-to-requires
 run-to-requires c κs = search needs
 
 same-length : tie.Need-same-length
-same-length c = c .before .before .before .before .run-to .kept .0 ∙ simp length-set
+same-length c = c .before .before .before .before .before .before .run-to .kept .0 ∙ simp length-set
 
 same-length-2 : tie.Need-same-length-2
 same-length-2 c = search needs
 
+same-length-3 : tie.Need-same-length-3
+same-length-3 c = search needs
+
 returns : tie.Need-returns
 returns c =
-    let l = c .before .before .before .before in
-    let paused = l .run-to .ensures ∙ paused-run _ _ _ (given l) in
-    (paused, handed-out _ _ _ (given l) _ paused)
+    let l = c .before .before .before .before .before .before in
+    let paused = l .run-to .ensures .0 ∙ paused-run _ _ _ (given l) in
+    (paused, (handed-out _ _ _ (given l) _ paused, l .run-to .ensures .1))
 
 pub run-to-write-spec : {M : Type 1} → statement M
 run-to-write-spec =
@@ -45,4 +48,5 @@ run-to-write-spec =
     run-to-requires
     same-length
     same-length-2
+    same-length-3
     returns)
