@@ -73,7 +73,7 @@ module _ (known : List ℕ) (at first a b c : ℕ) where
     c-of : getD filled (at + 3) 0 ≡ c
     c-of = getD-set-same three (at + 3) c 0 (omega (arith, length-set two (at + 2) b, length-set one (at + 1) a, length-set known at first))
 
--- its word and its kind share the first number
+-- it has its word, its instruction and no other place, where word and kind share the first number
 pub entered : (known : List ℕ) (at word kind a b c : ℕ) → at + fieldCount ≤ length known → word < 2 ^ 32 →
     Entered known (filled known at (kind * 2 ^ 60 + word) a b c) at word (instructionOf kind a b c)
 entered known at word kind a b c inside small =
@@ -90,7 +90,7 @@ entered known at word kind a b c inside small =
     high : (k w : ℕ) → w < 2 ^ 32 → (k * 2 ^ 60 + w) / 2 ^ 60 ≡ k
     high k w h = omega arith
 
--- what came to an entry is another instruction by name
+-- the same of an instruction that is equal
 pub entered-as : {before after : List ℕ} {at word : ℕ} {x y : Instruction} → Entered before after at word x → x ≡ y → Entered before after at word y
 entered-as {before} {after} {at} {word} h e = subst (Entered before after at word) e h
 

@@ -18,11 +18,10 @@ entryCount = 64
 abbrev pub fieldCount : ℕ
 fieldCount = 4
 
--- an instruction by its kind, which is its place among the fourteen, from 0, and by its fields
+-- an instruction by its kind, which is its place among the fourteen, from 0, and by its fields; 14 and 15 are ecall too
 unfoldable pub instructionOf : ℕ → ℕ → ℕ → ℕ → Instruction
 instructionOf kind a b c =
-    cond (eqb kind 0) (Lui (record { rd = a; imm = c }))
-    (cond (eqb kind 1) (Jal (record { rd = a; imm = c }))
+    cond (eqb kind 1) (Jal (record { rd = a; imm = c }))
     (cond (eqb kind 2) (Jalr (record { rd = a; rs1 = b; imm = c }))
     (cond (eqb kind 3) (Beq (record { rs1 = a; rs2 = b; word = c % 2 ^ 32 }))
     (cond (eqb kind 4) (Ld (record { rd = a; rs1 = b; imm = c }))
@@ -33,7 +32,10 @@ instructionOf kind a b c =
     (cond (eqb kind 9) (Mul (record { rd = a; rs1 = b; rs2 = c }))
     (cond (eqb kind 10) (Sltu (record { rd = a; rs1 = b; rs2 = c }))
     (cond (eqb kind 11) (Divu (record { rd = a; rs1 = b; rs2 = c }))
-    (cond (eqb kind 12) (Remu (record { rd = a; rs1 = b; rs2 = c })) Ecall))))))))))))
+    (cond (eqb kind 12) (Remu (record { rd = a; rs1 = b; rs2 = c }))
+    (cond (eqb kind 13) Ecall
+    (cond (eqb kind 14) Ecall
+    (cond (eqb kind 15) Ecall (Lui (record { rd = a; imm = c }))))))))))))))))
 
 -- an entry's first number has the word in its low 32 bits and the kind in its high 4; the fields follow
 abbrev pub wordAt : List ℕ → ℕ → ℕ

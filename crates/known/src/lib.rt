@@ -38,6 +38,7 @@ pub fn nothing_known() -> [u64; TABLE]
     [ECALL; TABLE]
 }
 
+// Fills the entry at a place: a word, and the kind and the fields of its instruction.
 fn enter(known: &mut [u64], at: usize, word: u32, kind: u64, a: usize, b: usize, c: u64)
     requires { ⌜ at + fieldCount ≤ length (now known) ⌝ }
     requires { ⌜ kind < 14 ⌝ }
@@ -49,6 +50,7 @@ fn enter(known: &mut [u64], at: usize, word: u32, kind: u64, a: usize, b: usize,
     known[at + 3] = c;
 }
 
+// The same of an instruction with three registers.
 fn enter_registers(known: &mut [u64], at: usize, word: u32, kind: u64, r: RType)
     requires { ⌜ at + fieldCount ≤ length (now known) ⌝ }
     requires { ⌜ kind < 14 ⌝ }
@@ -96,7 +98,7 @@ fn r_type(rd: usize, rs1: usize, rs2: u64) -> RType
     }
 }
 
-// The instruction in the entry at a place.
+// The instruction in the entry at a place. A kind has four bits, and each of its sixteen values an arm: so the compiler tests no range.
 fn recall(known: &[u64], at: usize) -> Instruction
     requires { ⌜ at + fieldCount ≤ length (now known) ⌝ }
     ensures { λ r. ⌜ r ≡ instructionAt (now (known .entry)) at ⌝ }
@@ -105,7 +107,6 @@ fn recall(known: &[u64], at: usize) -> Instruction
     let b = known[at + 2] as usize;
     let c = known[at + 3];
     match known[at] / KIND {
-        0 => Instruction::Lui(UType { rd: a, imm: c }),
         1 => Instruction::Jal(JType { rd: a, imm: c }),
         2 => Instruction::Jalr(i_type(a, b, c)),
         3 => Instruction::Beq(BType {
@@ -126,7 +127,10 @@ fn recall(known: &[u64], at: usize) -> Instruction
         10 => Instruction::Sltu(r_type(a, b, c)),
         11 => Instruction::Divu(r_type(a, b, c)),
         12 => Instruction::Remu(r_type(a, b, c)),
-        _ => Instruction::Ecall,
+        13 => Instruction::Ecall,
+        14 => Instruction::Ecall,
+        15 => Instruction::Ecall,
+        _ => Instruction::Lui(UType { rd: a, imm: c }),
     }
 }
 
