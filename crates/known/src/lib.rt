@@ -38,25 +38,40 @@ pub fn nothing_known() -> [u64; TABLE]
     [ECALL; TABLE]
 }
 
-// Fills the entry at a place: a word, and the kind and the fields of its instruction.
-fn enter(known: &mut [u64], at: usize, word: u32, kind: u64, a: usize, b: usize, c: u64)
-    requires { ⌜ at + fieldCount ≤ length (now known) ⌝ }
-    requires { ⌜ kind < 14 ⌝ }
-    ensures { λ _. ⌜ Entered (now (known .entry)) (now (known .exit)) at word (instructionOf kind a b c) ⌝ }
-{
-    known[at] = kind * KIND + word as u64;
-    known[at + 1] = a as u64;
-    known[at + 2] = b as u64;
-    known[at + 3] = c;
+// An instruction as plain numbers: its kind, and its fields in the order of its format.
+struct Fields {
+    kind: u64,
+    a: usize,
+    b: usize,
+    c: u64,
 }
 
-// The same of an instruction with three registers.
-fn enter_registers(known: &mut [u64], at: usize, word: u32, kind: u64, r: RType)
-    requires { ⌜ at + fieldCount ≤ length (now known) ⌝ }
-    requires { ⌜ kind < 14 ⌝ }
-    ensures { λ _. ⌜ Entered (now (known .entry)) (now (known .exit)) at word (instructionOf kind (r .rd) (r .rs1) (r .rs2)) ⌝ }
+fn with_kind(kind: u64, a: usize, b: usize, c: u64) -> Fields
+    ensures { λ r. ⌜ r ≡ record { kind = kind; a = a; b = b; c = c } ⌝ }
 {
-    enter(known, at, word, kind, r.rd, r.rs1, r.rs2 as u64)
+    Fields { kind, a, b, c }
+}
+
+fn fields_of(instruction: Instruction) -> Fields
+    ensures { λ r. ⌜ instructionOf (r .kind) (r .a) (r .b) (r .c) ≡ instruction ⌝ }
+    ensures { λ r. ⌜ r .kind < 14 ⌝ }
+{
+    match instruction {
+        Instruction::Lui(u) => with_kind(0, u.rd, 0, u.imm),
+        Instruction::Jal(j) => with_kind(1, j.rd, 0, j.imm),
+        Instruction::Jalr(i) => with_kind(2, i.rd, i.rs1, i.imm),
+        Instruction::Beq(b) => with_kind(3, b.rs1, b.rs2, b.word as u64),
+        Instruction::Ld(i) => with_kind(4, i.rd, i.rs1, i.imm),
+        Instruction::Sd(s) => with_kind(5, s.rs1, s.rs2, s.imm),
+        Instruction::Addi(i) => with_kind(6, i.rd, i.rs1, i.imm),
+        Instruction::Add(r) => with_kind(7, r.rd, r.rs1, r.rs2 as u64),
+        Instruction::Sub(r) => with_kind(8, r.rd, r.rs1, r.rs2 as u64),
+        Instruction::Mul(r) => with_kind(9, r.rd, r.rs1, r.rs2 as u64),
+        Instruction::Sltu(r) => with_kind(10, r.rd, r.rs1, r.rs2 as u64),
+        Instruction::Divu(r) => with_kind(11, r.rd, r.rs1, r.rs2 as u64),
+        Instruction::Remu(r) => with_kind(12, r.rd, r.rs1, r.rs2 as u64),
+        Instruction::Ecall => with_kind(13, 0, 0, 0),
+    }
 }
 
 // Puts a word and its instruction into the entry at a place.
@@ -64,22 +79,11 @@ fn learn(known: &mut [u64], at: usize, word: u32, instruction: Instruction)
     requires { ⌜ at + fieldCount ≤ length (now known) ⌝ }
     ensures { λ _. ⌜ Entered (now (known .entry)) (now (known .exit)) at word instruction ⌝ }
 {
-    match instruction {
-        Instruction::Lui(u) => enter(known, at, word, 0, u.rd, 0, u.imm),
-        Instruction::Jal(j) => enter(known, at, word, 1, j.rd, 0, j.imm),
-        Instruction::Jalr(i) => enter(known, at, word, 2, i.rd, i.rs1, i.imm),
-        Instruction::Beq(b) => enter(known, at, word, 3, b.rs1, b.rs2, b.word as u64),
-        Instruction::Ld(i) => enter(known, at, word, 4, i.rd, i.rs1, i.imm),
-        Instruction::Sd(s) => enter(known, at, word, 5, s.rs1, s.rs2, s.imm),
-        Instruction::Addi(i) => enter(known, at, word, 6, i.rd, i.rs1, i.imm),
-        Instruction::Add(r) => enter_registers(known, at, word, 7, r),
-        Instruction::Sub(r) => enter_registers(known, at, word, 8, r),
-        Instruction::Mul(r) => enter_registers(known, at, word, 9, r),
-        Instruction::Sltu(r) => enter_registers(known, at, word, 10, r),
-        Instruction::Divu(r) => enter_registers(known, at, word, 11, r),
-        Instruction::Remu(r) => enter_registers(known, at, word, 12, r),
-        Instruction::Ecall => enter(known, at, word, 13, 0, 0, 0),
-    }
+    let f = fields_of(instruction);
+    known[at] = f.kind * KIND + word as u64;
+    known[at + 1] = f.a as u64;
+    known[at + 2] = f.b as u64;
+    known[at + 3] = f.c;
 }
 
 fn i_type(rd: usize, rs1: usize, imm: u64) -> IType
