@@ -2,7 +2,7 @@
 import collections
 import struct
 
-from model import ARITHMETIC, FIELD_BYTES, HARMONIC, Options, bits_of, row_sizes
+from model import ARITHMETIC, FIELD_BYTES, FIELDS, HARMONIC, Options, bits_of, row_sizes
 from programs import LEAVE, assemble_texts, label_programs, padded, random_texts, random_word
 
 Case = collections.namedtuple("Case", "name options words marks code data tape")
@@ -270,4 +270,12 @@ def sheet_of(c):
     code, data = c.code[1], c.data[1]
     data_at = FIELD_BYTES + len(code)
     fields = fields_for(c, FIELD_BYTES, data_at, data_at + len(data))
-    return struct.pack("<16Q", *fields) + code + data + struct.pack(f"<{len(c.tape)}Q", *c.tape)
+    return struct.pack(f"<{FIELDS}Q", *fields) + code + data + struct.pack(f"<{len(c.tape)}Q", *c.tape)
+
+
+def with_fields(sheet, given):
+    """The sheet with these values in these fields."""
+    fields = list(struct.unpack(f"<{FIELDS}Q", sheet[:FIELD_BYTES]))
+    for at, value in given.items():
+        fields[at] = value
+    return struct.pack(f"<{FIELDS}Q", *fields) + sheet[FIELD_BYTES:]

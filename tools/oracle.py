@@ -16,8 +16,20 @@ def need_oracle():
     need_to_run(os.path.exists(ORACLE), "the oracle is not built: cargo build --release in oracle/")
 
 
-def run_on(command, sheet):
-    return subprocess.run(command, input=sheet, capture_output=True, timeout=SECONDS)
+def run_on(command, sheet, seconds=SECONDS):
+    return subprocess.run(command, input=sheet, capture_output=True, timeout=seconds)
+
+
+def told(done):
+    return done.stdout if done.returncode == 0 else f"exit status {done.returncode}\n".encode()
+
+
+def told_by(command, sheet, seconds=SECONDS):
+    """What a command prints for a sheet, or why it prints nothing."""
+    try:
+        return told(run_on(command, sheet, seconds))
+    except subprocess.TimeoutExpired:
+        return b"nothing in time\n"
 
 
 def ask(sheet, *options):
