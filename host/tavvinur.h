@@ -73,7 +73,7 @@ typedef struct {
     uint64_t written; /* bytes at the front of the output */
 } tavvinur_printed;
 
-/* 3000 states of 1 MiB, 1000 instructions, 50 kept, 20 rounds, ratio 0.6, harmonic. */
+/* 400 states of 1 MiB, 1000 instructions, 50 kept, 20 rounds, ratio 0.6, harmonic: the Rust's, but for the states, 3000 there. */
 tavvinur_options tavvinur_default_options(void);
 
 /* Makes a new executor of a program in a lent row, whatever the row held. Answers 0, or 1, 4, 5, 6, 7.

@@ -531,7 +531,7 @@ def float_of(word):
 
 
 # what all ones in the first fields stand for
-DEFAULTS = dict(states=3000, step=1000, selection=50, rounds=20, ratio=bits_of(0.6), mean=HARMONIC, memory=1_048_576)
+DEFAULTS = dict(states=400, step=1000, selection=50, rounds=20, ratio=bits_of(0.6), mean=HARMONIC, memory=1_048_576)
 
 
 def fields_of(sheet):

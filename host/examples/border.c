@@ -38,7 +38,7 @@ static void look_at_defaults(void)
 {
     tavvinur_options o = tavvinur_default_options();
     assert(o.memory_size == 1048576);
-    assert(o.amount_of_states == 3000);
+    assert(o.amount_of_states == 400);
     assert(o.step_size == 1000);
     assert(o.selection == 50);
     assert(o.iterations == 20);

@@ -63,7 +63,7 @@ fn parts(answer: Answer) -> [u64; 5] {
 fn look_at_defaults() {
     let options = Options::default();
     assert_eq!(options.memory_size, 1_048_576);
-    assert_eq!(options.amount_of_states, 3000);
+    assert_eq!(options.amount_of_states, 400);
     assert_eq!(options.step_size, 1000);
     assert_eq!(options.selection, 50);
     assert_eq!(options.iterations, 20);

@@ -374,7 +374,7 @@ static void accept_search(void)
 static void check_defaults(void)
 {
     tavvinur_options o = tavvinur_default_options();
-    assert(o.memory_size == 1048576 && o.amount_of_states == 3000 && o.step_size == 1000 && o.selection == 50);
+    assert(o.memory_size == 1048576 && o.amount_of_states == 400 && o.step_size == 1000 && o.selection == 50);
     assert(o.iterations == 20 && o.mean == TAVVINUR_HARMONIC && o.copy_init_ratio == 0.6);
     cases++;
 }

@@ -10,7 +10,8 @@
 
 use std::ops::Range;
 
-/// The options of a search. `Default` gives those of the original's command line.
+/// The options of a search. `Default` gives 400 states of 1 MiB, 1000 instructions, 50 kept, 20 rounds, ratio 0.6, harmonic: those of
+/// the original's command line, but for the number of states, which is 3000 there.
 #[repr(C)]
 #[derive(Debug, Clone, Copy, PartialEq)]
 pub struct Options {

@@ -10,6 +10,10 @@ const FIELDS_BYTES: usize = 128;
 const PROGRAM_SHEET_BYTES: usize = 61_440;
 const ALL_ONES: u64 = u64::MAX;
 
+/// What all ones in field 0 stand for: since change 2 of the requests not the Rust's own
+/// `defaults::AMOUNT_OF_STATES`, which is 3000. Such a sheet is compared with the Rust given 400.
+const DEFAULT_STATES: u64 = 400;
+
 /// Whose limits hold: the bench program's smaller ones, or only the library's.
 #[derive(Debug, Clone, Copy, PartialEq, Eq)]
 pub enum Limits {
@@ -40,7 +44,7 @@ pub fn read(bytes: &[u8], limits: Limits) -> Result<Sheet, u64> {
         given => given,
     };
 
-    let states = or_default(0, defaults::AMOUNT_OF_STATES as u64);
+    let states = or_default(0, DEFAULT_STATES);
     let step = or_default(1, defaults::STEP_SIZE);
     let selection = or_default(2, defaults::SELECTION as u64);
     let rounds = or_default(3, defaults::ITERATIONS);

@@ -1,4 +1,4 @@
--- The Rust's defaults.
+-- The defaults: the Rust's, but for the number of states, which is 3000 there (change 2 of document 02).
 use Prim.Native.Nat.{ℕ}
 use lib.Ieee.{binary64, ofBits}
 use Rattle.means.specs.declared.MeanType.{MeanType}
@@ -10,7 +10,7 @@ abbrev pub defaultMemorySize : ℕ
 defaultMemorySize = 1048576
 
 abbrev pub defaultAmountOfStates : ℕ
-defaultAmountOfStates = 3000
+defaultAmountOfStates = 400
 
 abbrev pub defaultStepSize : ℕ
 defaultStepSize = 1000

@@ -1,4 +1,4 @@
-// What a search is asked to do (the Rust's RaritySimulationOptions and its defaults), and the numbers of the means. For every layer that reads options.
+// What a search is asked to do (the Rust's RaritySimulationOptions), the defaults, and the numbers of the means. For every layer that reads options.
 ghost use mathlib.Core.Path.{_≡_};
 ghost use Prim.Native.Nat.{_≤_};
 ghost use Rattle.options.specs.Defaults.{defaultMean, defaultOptions};
@@ -27,7 +27,7 @@ pub struct RaritySimulationOptions {
 pub const MEMORY_SIZE: u64 = 1_048_576;
 
 // The default of amount_of_states.
-pub const AMOUNT_OF_STATES: u64 = 3000;
+pub const AMOUNT_OF_STATES: u64 = 400;
 
 // The default of step_size.
 pub const STEP_SIZE: u32 = 1000;
@@ -49,7 +49,7 @@ pub fn default_mean() -> MeanType
 }
 
 impl RaritySimulationOptions {
-    // The options that the Rust's command line starts from.
+    // The default options: those that the Rust's command line starts from, but for the number of states.
     pub fn default() -> RaritySimulationOptions
         ensures { λ r. ⌜ r ≡ defaultOptions ⌝ }
     {

@@ -1,4 +1,4 @@
--- All ones in fields 0 to 6 ask for the Rust's default options.
+-- All ones in fields 0 to 6 ask for the default options.
 use mathlib.Core.Path.{_≡_, sym, ap, _∙_}
 use mathlib.Core.List.{List}
 use Prim.Native.Nat.{ℕ, _-_, _^_, _<_}

@@ -47,7 +47,7 @@ fieldsOf s =
 unfoldable pub orDefault : ℕ → ℕ → ℕ
 orDefault x default = cond (eqb x (2 ^ 64 - 1)) default x
 
--- the Rust's defaults in fields 0 to 6, before any check of a value
+-- the defaults in fields 0 to 6, before any check of a value
 abbrev pub withDefaults : Fields → Fields
 withDefaults f =
     record {

@@ -58,7 +58,7 @@ fn options_of(options: Options) -> RaritySimulationOptions
     }
 }
 
-// The options that the Rust's command line starts from.
+// The default options: those that the Rust's command line starts from, but for the number of states.
 #[no_mangle]
 pub extern "C" fn tavvinur_default_options() -> Options
     ensures { λ r. ⌜ r ≡ flatOf defaultOptions ⌝ }

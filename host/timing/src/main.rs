@@ -51,6 +51,9 @@ impl Case {
 /// Log words of a row: more than the keys that four rounds of 1000 instructions read.
 pub const LOG: u64 = 512;
 
+/// More than the keys and copies of four rounds of the most states.
+const TAPE_WORDS: usize = 1 << 18;
+
 pub const KEYS: Program = Program {
     code_address: 0,
     code: &keys::KEYS_CODE,
@@ -95,7 +98,7 @@ fn tape() -> Vec<u64> {
         x ^= x >> 27;
         x.wrapping_mul(0x2545_f491_4f6c_dd1d)
     };
-    (0..1 << 17).map(|_| word()).collect()
+    (0..TAPE_WORDS).map(|_| word()).collect()
 }
 
 /// The best of each of up to five times that are taken together; those after the first second are left out.
@@ -160,7 +163,7 @@ fn cases() -> Vec<Case> {
     let mut cases = Vec::new();
     for rounds in [1, 4] {
         for memory in [1024, 16_384, 65_536] {
-            for states in [8, 32, 128] {
+            for states in [8, 32, 128, Options::default().amount_of_states] {
                 cases.push(Case {
                     states,
                     memory,
