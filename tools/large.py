@@ -83,7 +83,7 @@ def large_sheets(rng, folder, count):
 
 # --- the default size ---
 
-# One block of sheets in so many has a search of the default size. As scoring is, that takes minutes.
+# One block of sheets in so many has a search of the default size. As scoring is, that takes one to three minutes.
 BLOCKS_TO_A_DEFAULT, SECONDS = 10, 600
 # More log words, and more tape words for each instruction, than the programs read.
 LOG_OF_DEFAULT, INSTRUCTIONS_A_WORD = 10_000, 2
