@@ -3,7 +3,7 @@ ghost use Rattle.std.specs.Prelude.{◌≡◌};
 ghost use Rattle.answers.specs.Numbers.{bug_number, bug_value};
 
 // The bugs, numbers 41 to 45.
-#[derive(Drop)]
+#[derive(Clone, Copy)]
 pub enum Bug {
     DivisionByZero,
     AccessToUninitializedMemory(UninitializedMemoryAccessReason),
@@ -15,7 +15,7 @@ pub enum Bug {
 }
 
 // Who used a word that nobody wrote.
-#[derive(Drop)]
+#[derive(Clone, Copy)]
 pub enum UninitializedMemoryAccessReason {
     InstructionWithUninitializedOperand,
     // by the write call

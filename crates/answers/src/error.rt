@@ -4,7 +4,7 @@ ghost use Rattle.std.specs.Prelude.{◌≡◌};
 ghost use Rattle.answers.specs.Numbers.{error_number, error_value, reason_value};
 
 // The errors, numbers 20, 21, 23, 24, 25 and 71.
-#[derive(Drop)]
+#[derive(Clone, Copy)]
 pub enum ExecutorError {
     NotSupported(NotSupportedReason),
     InvalidInstructionEncoding,
@@ -17,7 +17,7 @@ pub enum ExecutorError {
 }
 
 // What 20 cannot do.
-#[derive(Drop)]
+#[derive(Clone, Copy)]
 pub enum NotSupportedReason {
     FetchUninitializedWord,
     BrkUninitializedAddress,

@@ -8,7 +8,7 @@ use crate::error::ExecutorError;
 use crate::outcome::Outcome;
 
 // How a search ends.
-#[derive(Drop)]
+#[derive(Clone, Copy)]
 pub enum Finding {
     // All rounds are done, and no state met a bug or an error.
     Nothing,

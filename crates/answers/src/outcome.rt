@@ -6,7 +6,7 @@ use crate::bug::Bug;
 use crate::error::ExecutorError;
 
 // How an executor ended.
-#[derive(Drop)]
+#[derive(Clone, Copy)]
 pub enum Outcome {
     // exit with 0
     Exited,
@@ -16,7 +16,7 @@ pub enum Outcome {
 
 // What an instruction or a run comes to. A run that reached its limit is still running: number 22, the Rust's
 // ExecutionDepthReached.
-#[derive(Drop)]
+#[derive(Clone, Copy)]
 pub enum Progress {
     Running,
     Ended(Outcome),

@@ -1,4 +1,6 @@
 // The bench program: a sheet on standard input, the lines of its answer on standard output.
+#![tactic(auto)]
+
 use libc::{STDIN_FILENO, STDOUT_FILENO};
 use report::{MOST_PRINTED, SHEET_BUFFER, report};
 

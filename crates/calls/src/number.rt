@@ -3,7 +3,7 @@ ghost use Rattle.std.specs.Prelude.{◌≡◌};
 ghost use Rattle.calls.specs.CallNumbers.{syscall_id};
 
 // The calls that there are.
-#[derive(Drop)]
+#[derive(Clone, Copy)]
 pub enum SyscallId {
     Exit,
     Read,

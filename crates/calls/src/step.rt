@@ -5,7 +5,7 @@ ghost use Rattle.calls.specs.Calls.{step_of};
 use answers::outcome::{Outcome, Progress};
 
 // The next instruction may follow, a write call waits to be completed, or the executor has ended.
-#[derive(Drop)]
+#[derive(Clone, Copy)]
 pub enum Step {
     // the next instruction may follow
     Running,
@@ -16,7 +16,7 @@ pub enum Step {
 }
 
 // The same, and how many tape words are used so far.
-#[derive(Drop)]
+#[derive(Clone, Copy)]
 pub struct Stepped {
     pub step: Step,
     pub used: usize,

@@ -19,7 +19,7 @@ const A2: usize = 12;
 pub(crate) const A7: usize = 17;
 
 // What comes of the checks.
-#[derive(Drop)]
+#[derive(Clone, Copy)]
 pub enum Transfer {
     // address and size in bytes, all of it in memory
     Buffer { buffer: u64, size: u64 },
@@ -27,7 +27,7 @@ pub enum Transfer {
 }
 
 // Why a call on another file, without a buffer or without a size is not supported.
-#[derive(Drop)]
+#[derive(Clone, Copy)]
 pub struct Reasons {
     pub file: NotSupportedReason,
     pub buffer: NotSupportedReason,

@@ -8,7 +8,7 @@ use rows::limits::{MEMORY_UNIT, MOST_LOG, MOST_MEMORY_BYTES, MOST_ROWS};
 use rows::row::{HEADER, REGISTERS};
 
 // Why an entry refuses, in the order in which it tests.
-#[derive(Drop)]
+#[derive(Clone, Copy)]
 pub enum Refusal {
     MemorySize,
     AmountOfStates,
@@ -21,7 +21,7 @@ pub enum Refusal {
 }
 
 // What the tests of an entry come to.
-#[derive(Drop)]
+#[derive(Clone, Copy)]
 pub enum Checked {
     Accepted,
     Refused(Refusal),

@@ -7,6 +7,7 @@ ghost use Rattle.checks.specs.Tests.{checked_by};
 use crate::refusal::{Checked, Refusal, is_inside, is_whole};
 
 // `memory` is in words.
+#[tactic(auto, unfolding(crate::specs::Tests::checked_by))]
 pub fn check_segments(
     memory: u64,
     code_address: u64,

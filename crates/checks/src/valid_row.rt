@@ -50,6 +50,7 @@ fn zero_register(words: &[u64], marks: &[u8]) -> bool
     marks[0] == 1 && words[HEADER] == 0
 }
 
+#[tactic(auto, unfolding(rows::specs::Valid::sound_row))]
 fn sound_row(words: &[u64], marks: &[u8]) -> bool
     requires { Shape words.now marks.now }
     ensures { result ≡ sound_row (row words.now marks.now) }
@@ -70,6 +71,7 @@ fn sound_row(words: &[u64], marks: &[u8]) -> bool
 }
 
 // The whole test.
+#[tactic(auto, unfolding(rows::specs::Valid::valid_row))]
 pub fn valid_row(words: &[u64], marks: &[u8]) -> bool
     requires { Shape words.now marks.now }
     ensures { result ≡ valid_row (row words.now marks.now) }

@@ -59,7 +59,7 @@ pub fn byte_of(x: u64, b: u32) -> u64
 }
 
 // Which place has its lowest byte in a cell: one at most.
-#[derive(Drop)]
+#[derive(Clone, Copy)]
 enum Holder {
     At(usize),
     Nowhere,

@@ -5,7 +5,7 @@ ghost use Rattle.effects.specs.Arithmetic.{mul, operated};
 use std::num::{wrapping_add_u64, wrapping_sub_u64};
 
 // The operation of an instruction (the Rust's closures Op).
-#[derive(Drop)]
+#[derive(Clone, Copy)]
 pub enum Op {
     Add,
     Sub,
@@ -16,6 +16,7 @@ pub enum Op {
 }
 
 // a * b modulo 2^64, by halves of 32 bits: the product of the high halves does not reach the low 64 bits.
+#[tactic(auto, using(crate::proofs::Products::low_half))]
 fn wrapping_mul(a: u64, b: u64) -> u64
     ensures { result ≡ mul a b }
 {
@@ -27,6 +28,7 @@ fn wrapping_mul(a: u64, b: u64) -> u64
 }
 
 // The result of an operation; a zero divisor is the caller's to refuse, and gives what the definition gives.
+#[tactic(auto, unfolding(crate::specs::Arithmetic::operated))]
 pub(crate) fn operate(op: Op, a: u64, b: u64) -> u64
     ensures { result ≡ operated op a b }
 {

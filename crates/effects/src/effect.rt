@@ -12,7 +12,7 @@ use riscu::instruction::{BType, IType, Instruction, RType, SType};
 use values::{Value, value_at};
 
 // What an instruction does to the machine that executes it. Each but a call and an end gives the next pc.
-#[derive(Drop)]
+#[derive(Clone, Copy)]
 pub enum Effect {
     // register rd, from 1 to 31, takes a value
     Assign {
@@ -115,6 +115,7 @@ fn execute_sd(words: &[u64], marks: &[u8], t: SType, pc: u64, memory: u64) -> Ef
 
 // The effect of an instruction at pc, with these registers and a memory of `memory` words. Each arm reads its own
 // operands, so that an instruction is dispatched once.
+#[tactic(auto, unfolding(crate::specs::Effects::effect_of))]
 pub fn effect_of(
     words: &[u64],
     marks: &[u8],

@@ -37,6 +37,7 @@ fn not_supported(reason: NotSupportedReason) -> Effect
 }
 
 // x0 is never written.
+#[tactic(auto, unfolding(crate::specs::Effects::assign))]
 fn assign_rd(rd: usize, value: Value, next_pc: u64) -> Effect
     ensures { result ≡ assign_of rd value next_pc }
 {
@@ -53,6 +54,7 @@ pub(crate) fn lui(rd: usize, imm: u64, pc: u64) -> Effect
     assign_rd(rd, Value::Concrete(imm), following(pc))
 }
 
+#[tactic(auto, unfolding(crate::specs::Effects::binary_op))]
 pub(crate) fn binary_op(op: Op, rd: usize, pc: u64, a: Value, b: Value) -> Effect
     ensures { result ≡ binary_op op rd pc a b }
 {
@@ -74,6 +76,7 @@ fn is_zero(v: Value) -> bool
     }
 }
 
+#[tactic(auto, unfolding(crate::specs::Effects::divu_remu))]
 pub(crate) fn divu_remu(op: Op, rd: usize, pc: u64, a: Value, b: Value) -> Effect
     ensures { result ≡ divu_remu op rd pc a b }
 {
@@ -86,6 +89,7 @@ pub(crate) fn divu_remu(op: Op, rd: usize, pc: u64, a: Value, b: Value) -> Effec
 
 // The immediate is put together only where the branch is taken: the compiler then makes a branch of it, and the next
 // fetch need not wait for the comparison.
+#[tactic(auto, unfolding(crate::specs::Effects::beq))]
 pub(crate) fn beq(word: u32, pc: u64, a: Value, b: Value) -> Effect
     ensures { result ≡ beq_of (imm_b word) pc a b }
 {
@@ -116,6 +120,7 @@ pub(crate) fn jal(rd: usize, imm: u64, pc: u64) -> Effect
     )
 }
 
+#[tactic(auto, unfolding(crate::specs::Effects::jalr))]
 pub(crate) fn jalr(rd: usize, imm: u64, pc: u64, a: Value) -> Effect
     ensures { result ≡ jalr_of rd imm pc a }
 {
@@ -130,12 +135,14 @@ pub(crate) fn jalr(rd: usize, imm: u64, pc: u64, a: Value) -> Effect
 }
 
 // Whether an address names a word of a memory of `memory` words.
+#[tactic(auto, unfolding(crate::specs::Effects::valid_address))]
 fn is_valid_memory_address(address: u64, memory: u64) -> bool
     ensures { result ≡ valid_address address memory }
 {
     address % 8 == 0 && address / 8 < memory
 }
 
+#[tactic(auto, unfolding(crate::specs::Effects::invalid_address))]
 fn invalid_memory_address(address: u64) -> Effect
     ensures { result ≡ invalid_address address }
 {
@@ -146,6 +153,7 @@ fn invalid_memory_address(address: u64) -> Effect
     }
 }
 
+#[tactic(auto, unfolding(crate::specs::Effects::load_from))]
 fn load_from(address: u64, rd: usize, next_pc: u64, memory: u64) -> Effect
     ensures { result ≡ load_from address rd next_pc memory }
 {
@@ -164,6 +172,7 @@ fn load_from(address: u64, rd: usize, next_pc: u64, memory: u64) -> Effect
     }
 }
 
+#[tactic(auto, unfolding(crate::specs::Effects::ld))]
 pub(crate) fn ld(rd: usize, imm: u64, pc: u64, a: Value, memory: u64) -> Effect
     ensures { result ≡ ld_of rd imm pc a memory }
 {
@@ -173,6 +182,7 @@ pub(crate) fn ld(rd: usize, imm: u64, pc: u64, a: Value, memory: u64) -> Effect
     load_from(wrapping_add_u64(base, imm), rd, following(pc), memory)
 }
 
+#[tactic(auto, unfolding(crate::specs::Effects::store_to))]
 fn store_to(address: u64, value: Value, next_pc: u64, memory: u64) -> Effect
     ensures { result ≡ store_to address value next_pc memory }
 {
@@ -187,6 +197,7 @@ fn store_to(address: u64, value: Value, next_pc: u64, memory: u64) -> Effect
     }
 }
 
+#[tactic(auto, unfolding(crate::specs::Effects::sd))]
 pub(crate) fn sd(imm: u64, pc: u64, a: Value, value: Value, memory: u64) -> Effect
     ensures { result ≡ sd_of imm pc a value memory }
 {

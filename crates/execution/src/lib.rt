@@ -1,4 +1,6 @@
 // An instruction carried out on a row, up to its system call.
+#![tactic(auto)]
+
 ghost use Rattle.std.specs.Prelude.{◌≡◌, ◌-◌, length};
 ghost use Rattle.riscu.specs.Registers.{Registers};
 ghost use Rattle.effects.specs.Reach.{InReach};
@@ -11,7 +13,7 @@ use riscu::instruction::Instruction;
 use rows::row::{HEADER, PC, REGISTERS, read_memory, write_memory, write_slot};
 
 // What comes after an instruction: the next one, a system call, or the executor's end.
-#[derive(Drop)]
+#[derive(Clone, Copy)]
 pub enum Next {
     Instruction,
     Call,

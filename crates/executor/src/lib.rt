@@ -1,6 +1,8 @@
 // One executor for hosts: its row is lent, and nothing is asked of the caller.
 // Words are exactly 37 + W + L and marks 32 + W, W being the memory bytes over 8 and L the log words; what is
 // refused changes nothing.
+#![tactic(auto)]
+
 ghost use Rattle.std.specs.Prelude.{◌≡◌, ◌/◌};
 ghost use Rattle.rows.specs.Rows.{row};
 ghost use Rattle.loader.specs.Loading.{image};
@@ -16,7 +18,7 @@ use checks::valid_row::valid_row;
 use machine::run::Ran;
 
 // What a run of one row answers.
-#[derive(Drop)]
+#[derive(Clone, Copy)]
 pub enum RunAnswer {
     Refused(Refusal),
     Ran(Ran),

@@ -1,4 +1,6 @@
 // The store filled up to its number of states (the Rust's create_missing_executors). For the layers above.
+#![tactic(auto)]
+
 ghost use Rattle.std.specs.Prelude.{◌≡◌, ◌+◌, ◌-◌, ◌<◌, ◌≤◌, T, length, take, drop};
 ghost use Rattle.checks.specs.Refusals.{is_copy_ratio};
 ghost use Rattle.rows.specs.Limits.{most_rows};
@@ -14,7 +16,7 @@ use store::copy::copy_row;
 use store::layout::Layout;
 
 // Fewer tape words are left than copies to make, or the store is full and so many tape words are used.
-#[derive(Drop)]
+#[derive(Clone, Copy)]
 pub enum Filling {
     TapeShort,
     Filled(usize),

@@ -1,6 +1,8 @@
 // Words that were decoded before, with their instructions: a table that whoever runs a program lends to the run, so that it outlives a
 // halt. An instruction depends on its word alone, so where a program changes its code, another word is met, and nothing has to be
 // told of its stores. The entries are plain numbers, since a reference to an array of enums is not covered by the kit.
+#![tactic(auto)]
+
 ghost use Rattle.std.specs.Prelude.{◌≡◌, ◌+◌, ◌<◌, ◌≤◌, length};
 ghost use Rattle.riscu.specs.Decoding.{decoded};
 ghost use Rattle.known.specs.Table.{field_count, instruction_of, instruction_at, Faithful, Entered};
@@ -25,6 +27,7 @@ const KIND: u64 = 0x1000_0000_0000_0000;
 const ECALL: u64 = 0xD000_0000_0000_0073;
 
 // A table in which every entry is ecall.
+#[tactic(auto, unfolding(crate::specs::Table::instruction_of, riscu::specs::Decoding::decoded))]
 pub fn nothing_known() -> [u64; TABLE]
     ensures { Faithful result }
 {
@@ -32,7 +35,7 @@ pub fn nothing_known() -> [u64; TABLE]
 }
 
 // An instruction as plain numbers: its kind, and its fields in the order of its format.
-#[derive(Drop)]
+#[derive(Clone, Copy)]
 struct Fields {
     kind: u64,
     a: usize,
@@ -46,6 +49,7 @@ fn with_kind(kind: u64, a: usize, b: usize, c: u64) -> Fields
     Fields { kind, a, b, c }
 }
 
+#[tactic(auto, unfolding(crate::specs::Table::instruction_of))]
 fn fields_of(instruction: Instruction) -> Fields
     ensures c_value { instruction_of result.kind result.a result.b result.c ≡ instruction }
     ensures kind_bound { result.kind < 14 }
@@ -97,6 +101,7 @@ fn r_type(rd: usize, rs1: usize, rs2: u64) -> RType
 }
 
 // The instruction in the entry at a place. A kind has four bits, and each of its sixteen values an arm: so the compiler tests no range.
+#[tactic(auto, unfolding(crate::specs::Table::instruction_of))]
 fn recall(known: &[u64], at: usize) -> Instruction
     requires { at + field_count ≤ length known.now }
     ensures { result ≡ instruction_at known.now at }

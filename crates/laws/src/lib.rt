@@ -1,1 +1,2 @@
 // Laws of choices, lists and numbers that know nothing of the search. See proofs/.
+#![tactic(auto)]

@@ -1,4 +1,6 @@
 // The printed lines of an answer. For the crate report, whose output has the room that is asked for.
+#![tactic(auto)]
+
 ghost use Rattle.std.specs.Prelude.{◌≡◌, ◌+◌, ◌*◌, ◌≤◌, length};
 ghost use Rattle.lines.specs.Lines.{lines, answer_line, input_label, number_line, input_lines};
 ghost use Rattle.writing.specs.Writing.{Wrote};

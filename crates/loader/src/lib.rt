@@ -1,4 +1,6 @@
 // A program loaded into a row: a new executor (the Rust's Executor::new and load_segment). For the layers above.
+#![tactic(auto)]
+
 ghost use Rattle.std.specs.Prelude.{◌≡◌, ◌+◌, ◌-◌, ◌/◌, ◌<◌, ◌≤◌, ◌^◌, length};
 ghost use Rattle.values.specs.Values.{register_count};
 ghost use Rattle.rows.specs.Rows.{row, Shape, memory_in};

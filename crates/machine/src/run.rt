@@ -18,7 +18,7 @@ use rows::row::{DEPTH, LIMIT, PC};
 
 // What a run answers: still running (number 22) or how it ended; the pc before the last instruction, or the
 // row's if it still runs; and how many tape words are used.
-#[derive(Drop)]
+#[derive(Clone, Copy)]
 pub struct Ran {
     pub progress: Progress,
     pub pc: u64,
@@ -26,7 +26,7 @@ pub struct Ran {
 }
 
 // The same of a run that halts at a write call: the step says at what it halted.
-#[derive(Drop)]
+#[derive(Clone, Copy)]
 pub struct Paused {
     pub step: Step,
     pub pc: u64,

@@ -19,7 +19,7 @@ use values::Value;
 const HALF: u64 = 0x1_0000_0000;
 
 // The word at pc, or why there is none.
-#[derive(Drop)]
+#[derive(Clone, Copy)]
 pub enum Fetched {
     Word(u32),
     Refused(ExecutorError),

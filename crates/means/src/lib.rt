@@ -1,17 +1,19 @@
 // The means by which a state's rarity is scored (the Rust's score_with_mean), taken in one counter at a time.
 // For the layers above; the definitions are in specs/, the error bound and the ruler in proofs/.
+#![tactic(auto)]
+
 ghost use Rattle.std.specs.Prelude.{◌≡◌, [], ◌≤◌, ◌-◌};
 ghost use Rattle.means.specs.Tallies.{tally, with_counter, mean_of, Within, most_counters};
 
 // The two means.
-#[derive(Drop)]
+#[derive(Clone, Copy)]
 pub enum MeanType {
     Arithmetic,
     Harmonic,
 }
 
 // The sum of the reciprocals of some counters, in list order, their sum, and how many they are.
-#[derive(Drop)]
+#[derive(Clone, Copy)]
 pub struct Tally {
     pub reciprocals: f64,
     pub sum: u64,
@@ -20,6 +22,7 @@ pub struct Tally {
 
 impl Tally {
     // Of no counters.
+    #[tactic(auto, unfolding(crate::specs::Means::reciprocals, crate::specs::Means::sum))]
     pub fn new() -> Tally
         ensures { result ≡ tally [] }
     {
@@ -44,6 +47,7 @@ impl Tally {
     }
 
     // Their mean: at least one was taken in.
+    #[tactic(auto, unfolding(crate::specs::Tallies::mean_of))]
     pub fn mean(self, mean: MeanType) -> f64
         requires { Within most_counters self }
         ensures { result ≡ mean_of mean self }

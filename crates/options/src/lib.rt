@@ -1,4 +1,6 @@
 // What a search is asked to do (the Rust's RaritySimulationOptions), the defaults, and the numbers of the means. For every layer that reads options.
+#![tactic(auto)]
+
 ghost use Rattle.std.specs.Prelude.{◌≡◌, ◌≤◌};
 ghost use Rattle.options.specs.Defaults.{default_mean, default_options};
 ghost use Rattle.options.specs.Means.{mean_number, mean_numbered};
@@ -6,7 +8,7 @@ ghost use Rattle.options.specs.Means.{mean_number, mean_numbered};
 use means::MeanType;
 
 // The options of a search.
-#[derive(Drop)]
+#[derive(Clone, Copy)]
 pub struct RaritySimulationOptions {
     // The size of the machine's memory in bytes.
     pub memory_size: u64,

@@ -1,4 +1,6 @@
 // Scores of the rows of a store (the Rust's compute_scores). For the layers above.
+#![tactic(auto)]
+
 ghost use Rattle.std.specs.Prelude.{◌≡◌, ◌+◌, ◌*◌, ◌≤◌, ◌<◌, length};
 ghost use Rattle.store.specs.Store.{Fit, rows_of, nth_row};
 ghost use Rattle.means.specs.Tallies.{tally, Within, most_counters};

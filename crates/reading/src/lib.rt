@@ -1,4 +1,6 @@
 // Input for a row: tape words into its memory and its log (the loop of the Rust's execute_read). For the layers above.
+#![tactic(auto)]
+
 ghost use Rattle.std.specs.Prelude.{◌≡◌, ◌+◌, ◌-◌, ◌*◌, ◌/◌, ◌<◌, ◌≤◌, ◌^◌, length, get_or};
 ghost use Rattle.rows.specs.Rows.{row, Shape, memory_in, log_room, log_count};
 ghost use Rattle.reading.specs.Reading.{reached, drawn as drawn_of, recorded, full_word, full_words, tail as tail_in, rest as rest_of, bytes as bytes_of};
@@ -9,14 +11,14 @@ use rows::row::{HEADER, LOG_COUNT, read_memory, write_memory};
 use values::Value;
 
 // Whether the executor goes on, and how many tape words are used so far.
-#[derive(Drop)]
+#[derive(Clone, Copy)]
 pub struct Moved {
     pub progress: Progress,
     pub used: usize,
 }
 
 // The next tape word, or why there is none.
-#[derive(Drop)]
+#[derive(Clone, Copy)]
 pub enum Drawn {
     Word(u64),
     Refused(ExecutorError),

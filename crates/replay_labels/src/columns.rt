@@ -32,7 +32,7 @@ pub(crate) const MOST_NUMBERS: usize = 192;
 
 const MOST_RUNS: usize = 3;
 
-#[derive(Drop)]
+#[derive(Clone, Copy)]
 pub(crate) struct Columns {
     // in bytes
     pub(crate) code_length: usize,

@@ -1,5 +1,7 @@
 // Replays a list of cases that tools/make-labels makes: programs of one executor, each created and run through the entries for
 // hosts, with what a model written from document 01 says of every answer and of the row that is left.
+#![tactic(auto)]
+
 mod case;
 mod columns;
 mod creation;

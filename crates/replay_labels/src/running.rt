@@ -37,13 +37,13 @@ const MOST_MARK: u64 = 255;
 // One more than the largest step.
 const STEPS: u64 = 0x1_0000_0000;
 
-#[derive(Drop)]
+#[derive(Clone, Copy)]
 struct Made {
     well_formed: bool,
     answer: Answer,
 }
 
-#[derive(Drop)]
+#[derive(Clone, Copy)]
 pub(crate) struct Replayed {
     pub(crate) agrees: bool,
     pub(crate) used: usize,

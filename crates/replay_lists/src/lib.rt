@@ -1,5 +1,7 @@
 // What the programs that replay lists share: a list's lines and columns, a digest of what a call leaves, and the count of
 // cases that agree.
+#![tactic(auto)]
+
 pub mod columns;
 pub mod digest;
 pub mod float;

@@ -13,7 +13,7 @@ const ROOM_FOR_DIGIT: u64 = 0x1000_0000_0000_0000;
 
 const NO_DIGIT: u64 = 16;
 
-#[derive(Drop)]
+#[derive(Clone, Copy)]
 pub(crate) struct Line {
     pub(crate) wrong: bool,
     // whether no byte of the name has come

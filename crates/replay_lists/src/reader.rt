@@ -7,7 +7,7 @@ use crate::line::Line;
 pub const MOST_BYTES: usize = 0x1_0000_0000;
 
 // How many numbers a line has, none if it is broken, where the next line starts, and whether the line is wrong on purpose.
-#[derive(Drop)]
+#[derive(Clone, Copy)]
 pub struct Read {
     pub count: usize,
     pub next: usize,
@@ -15,7 +15,7 @@ pub struct Read {
 }
 
 // What came of some bytes, and how many of them belong to the line.
-#[derive(Drop)]
+#[derive(Clone, Copy)]
 struct Part {
     line: Line,
     taken: usize,

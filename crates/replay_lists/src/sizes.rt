@@ -10,7 +10,7 @@ const LENT_WORDS: usize = 2;
 
 const LENT_MARKS: usize = 3;
 
-#[derive(Drop)]
+#[derive(Clone, Copy)]
 pub struct Sizes {
     pub memory: u64,
     pub log: u64,

@@ -5,7 +5,7 @@ ghost use Rattle.replay_lists.specs.Tallies.{plus, one_if, nothing, with_case, w
 use libc::STDOUT_FILENO;
 
 // What came of a line.
-#[derive(Drop)]
+#[derive(Clone, Copy)]
 pub struct Judged {
     pub agrees: bool,
     // what was made of the things that a case has several of: runs, scores, states
@@ -13,7 +13,7 @@ pub struct Judged {
 }
 
 // What came of the lines so far.
-#[derive(Drop)]
+#[derive(Clone, Copy)]
 pub struct Tally {
     cases: u64,
     agree: u64,

@@ -37,7 +37,7 @@ pub(crate) const CODE: usize = 17;
 // The most numbers that a line has.
 pub(crate) const MOST_NUMBERS: usize = 192;
 
-#[derive(Drop)]
+#[derive(Clone, Copy)]
 pub(crate) struct Columns {
     // in bytes
     pub(crate) code_length: usize,

@@ -1,5 +1,7 @@
 // Replays a list of cases that tools/make-orders makes: label programs that the counter runner runs on keyed orders, with what a model
 // written from documents 01 and 02 says of every answer, and of the row and the output that are left.
+#![tactic(auto)]
+
 mod case;
 mod columns;
 mod list;

@@ -35,7 +35,7 @@ pub(crate) const TRIPLE: usize = 3;
 // The most that a line has.
 pub(crate) const MOST_NUMBERS: usize = 1536;
 
-#[derive(Drop)]
+#[derive(Clone, Copy)]
 pub(crate) struct Columns {
     pub(crate) scores: usize,
     // how many there are, and where the first stands

@@ -1,5 +1,7 @@
 // Replays a list of cases that tools/make-scores makes: stores of rows, each scored through the entry for hosts, with what a model
 // written from document 01 says of the answer, of each score and of some counters.
+#![tactic(auto)]
+
 mod call;
 mod case;
 mod columns;

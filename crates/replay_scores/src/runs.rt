@@ -14,7 +14,7 @@ const MARKS: u64 = 256;
 
 // The run in the columns from `at` on: from where to where it goes, cut so that it is within so many places, and whether it
 // is within without being cut.
-#[derive(Drop)]
+#[derive(Clone, Copy)]
 struct Run {
     from: usize,
     to: usize,

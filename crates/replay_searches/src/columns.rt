@@ -38,7 +38,7 @@ pub(crate) const CODE: usize = 21;
 // The most that a line has.
 pub(crate) const MOST_NUMBERS: usize = 320;
 
-#[derive(Drop)]
+#[derive(Clone, Copy)]
 pub(crate) struct Columns {
     // in bytes
     pub(crate) code_length: usize,

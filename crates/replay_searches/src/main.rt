@@ -1,5 +1,7 @@
 // Replays a list of cases that tools/make-searches makes: whole searches through the entry for hosts, with what a model written from
 // document 01 says of the answer and of the store that is left.
+#![tactic(auto)]
+
 mod asked;
 mod case;
 mod columns;

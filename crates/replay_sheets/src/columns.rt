@@ -19,7 +19,7 @@ pub(crate) const MOST_NUMBERS: usize = 512;
 
 pub(crate) const WORD_BYTES: usize = 8;
 
-#[derive(Drop)]
+#[derive(Clone, Copy)]
 pub(crate) struct Columns {
     pub(crate) length: usize,
     // words of the sheet that the line has

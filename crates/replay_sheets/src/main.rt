@@ -1,4 +1,6 @@
 // Replays a list of sheets that tools/make-sheets makes, with what a model written from document 01 says is printed for each.
+#![tactic(auto)]
+
 mod case;
 mod columns;
 mod list;

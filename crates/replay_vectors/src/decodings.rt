@@ -30,7 +30,7 @@ pub(crate) const DIVU: u64 = 12;
 pub(crate) const REMU: u64 = 13;
 
 // A decoding in the list's columns: 0 where the form has no such field.
-#[derive(Drop)]
+#[derive(Clone, Copy)]
 pub(crate) struct Fields {
     pub(crate) form: u64,
     pub(crate) rd: usize,

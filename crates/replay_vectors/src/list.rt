@@ -4,7 +4,7 @@ ghost use Rattle.std.specs.Prelude.{◌≤◌, length};
 use crate::tally::{Tally, Verdict};
 use crate::{decodings, results};
 
-#[derive(Drop)]
+#[derive(Clone, Copy)]
 pub(crate) enum List {
     Decodings,
     Results,
@@ -17,7 +17,7 @@ const MOST_BYTES: usize = 0x1_0000_0000;
 const WRONG: u8 = b'!';
 
 // What was counted up to the end of a part of a list, and how many bytes of the part that took.
-#[derive(Drop)]
+#[derive(Clone, Copy)]
 struct Progress {
     tally: Tally,
     used: usize,

@@ -1,6 +1,8 @@
 // Replays two lists that were made outside this project, by tools/make-vectors: what words decode to by the GNU tools, and what
 // instructions do by qemu. Says of each list how many of its lines agree with this project's functions, and how many of those
 // that are wrong on purpose do not.
+#![tactic(auto)]
+
 mod columns;
 mod decodings;
 mod list;

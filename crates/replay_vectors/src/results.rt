@@ -41,14 +41,14 @@ const NO_MEMORY: u64 = 0;
 
 // What an instruction does, in the list's columns. Without a register to write the value is 0. With a number that ends the
 // executor the value is the answer's, and there is no next pc.
-#[derive(Drop)]
+#[derive(Clone, Copy)]
 struct Step {
     number: u64,
     value: u64,
     next: u64,
 }
 
-#[derive(Drop)]
+#[derive(Clone, Copy)]
 enum Taken {
     Step(Step),
     // an effect that no line of the list has

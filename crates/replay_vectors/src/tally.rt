@@ -2,14 +2,14 @@
 use libc::STDOUT_FILENO;
 
 // Where document 01 departs from the manual, by the mark of a line.
-#[derive(Drop)]
+#[derive(Clone, Copy)]
 pub(crate) enum Departure {
     Lui,
     Jalr,
     ZeroDivisor,
 }
 
-#[derive(Drop)]
+#[derive(Clone, Copy)]
 pub(crate) enum Verdict {
     Disagrees,
     Agrees,
@@ -17,7 +17,7 @@ pub(crate) enum Verdict {
     Departs(Departure),
 }
 
-#[derive(Drop)]
+#[derive(Clone, Copy)]
 pub(crate) struct Tally {
     pub(crate) lines: u64,
     pub(crate) agree: u64,

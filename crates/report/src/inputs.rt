@@ -9,7 +9,7 @@ use search::answer::SearchAnswer;
 use store::layout::Layout;
 
 // From one place to before another.
-#[derive(Drop)]
+#[derive(Clone, Copy)]
 pub struct Span {
     pub from: usize,
     pub to: usize,

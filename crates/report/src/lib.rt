@@ -1,5 +1,7 @@
 // The bench program's work: from the bytes of a sheet to the printed bytes. For the programs bench and replay_sheets; nothing is asked of the
 // caller.
+#![tactic(auto)]
+
 ghost use Rattle.std.specs.Prelude.{◌≡◌, List, [], ℕ, ◌*◌, ◌≤◌, length, take};
 ghost use Rattle.answers.specs.Answers.{refused_answer};
 ghost use Rattle.writing.specs.Written.{written};

@@ -95,6 +95,7 @@ fn j_type(word: u64) -> JType
 }
 
 // Opcode 0x33: register with register. funct7 says which group of operations it is, funct3 which of the group.
+#[tactic(auto, unfolding(crate::specs::Decoding::decoded_op))]
 fn decode_op(word: u64) -> Decoded
     ensures { result ≡ decoded_op word }
 {
@@ -122,6 +123,7 @@ fn decode_op(word: u64) -> Decoded
 
 // The instruction that a word encodes, or that it encodes none of the fourteen. Each arm tests its own funct3, so that
 // it is one test of the word's bits.
+#[tactic(auto, unfolding(crate::specs::Decoding::decoded))]
 pub fn decode(raw: u32) -> Decoded
     ensures { result ≡ decoded raw }
 {

@@ -3,6 +3,7 @@ ghost use Rattle.std.specs.Prelude.{◌≡◌, ◌*◌, ◌<◌, ◌≤◌, ◌^
 ghost use Rattle.riscu.specs.Formats.{signed, imm_i, imm_s, imm_b, imm_j, imm_u};
 
 // A number whose highest bit, its sign, is worth `sign`, as the 64-bit number of the same value.
+#[tactic(auto, unfolding(crate::specs::Formats::signed))]
 fn sign_extend(x: u64, sign: u64) -> u64
     requires { (x < sign * 2) × (sign ≤ 2 ^ 31) }
     ensures { result ≡ signed sign x }

@@ -6,7 +6,7 @@
 pub const INSTRUCTION_SIZE: u64 = 4;
 
 // Two source registers and a destination.
-#[derive(Drop)]
+#[derive(Clone, Copy)]
 pub struct RType {
     pub rd: usize,
     pub rs1: usize,
@@ -14,7 +14,7 @@ pub struct RType {
 }
 
 // A source register, an immediate and a destination.
-#[derive(Drop)]
+#[derive(Clone, Copy)]
 pub struct IType {
     pub rd: usize,
     pub rs1: usize,
@@ -22,7 +22,7 @@ pub struct IType {
 }
 
 // Two source registers and an immediate: a store.
-#[derive(Drop)]
+#[derive(Clone, Copy)]
 pub struct SType {
     pub rs1: usize,
     pub rs2: usize,
@@ -30,7 +30,7 @@ pub struct SType {
 }
 
 // Two source registers and an immediate: a branch.
-#[derive(Drop)]
+#[derive(Clone, Copy)]
 pub struct BType {
     pub rs1: usize,
     pub rs2: usize,
@@ -39,21 +39,21 @@ pub struct BType {
 }
 
 // An immediate of the upper bits and a destination.
-#[derive(Drop)]
+#[derive(Clone, Copy)]
 pub struct UType {
     pub rd: usize,
     pub imm: u64,
 }
 
 // A jump's immediate and a destination.
-#[derive(Drop)]
+#[derive(Clone, Copy)]
 pub struct JType {
     pub rd: usize,
     pub imm: u64,
 }
 
 // By the manual's names.
-#[derive(Drop)]
+#[derive(Clone, Copy)]
 pub enum Instruction {
     Lui(UType),
     Jal(JType),
@@ -72,7 +72,7 @@ pub enum Instruction {
 }
 
 // What a word decodes to. An invalid encoding is number 21 (docs/NUMBERS.md).
-#[derive(Drop)]
+#[derive(Clone, Copy)]
 pub enum Decoded {
     Valid(Instruction),
     Invalid,

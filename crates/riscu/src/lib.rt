@@ -1,5 +1,7 @@
 // RISC-U: the fourteen instructions of RV64IM that label programs are made of, and their decoder.
 // For hosts and for the layers below in crates.txt. The definitions are in specs/.
+#![tactic(auto)]
+
 pub mod decode;
 pub mod immediate;
 pub mod instruction;

@@ -1,4 +1,6 @@
 // One round of a search: filling, running, and keeping the rarest. For the layers above.
+#![tactic(auto)]
+
 ghost use Rattle.std.specs.Prelude.{◌≡◌, length};
 ghost use Rattle.store.specs.Store.{Fit, rows_of};
 ghost use Rattle.counting.specs.Counters.{taking};
@@ -18,7 +20,7 @@ use selection::select_rarest;
 use store::layout::Layout;
 
 // The search goes on from what the round kept, or it ends with a finding, so many tape words being used.
-#[derive(Drop)]
+#[derive(Clone, Copy)]
 pub enum AfterRound {
     GoesOn(Start),
     Ends { finding: Finding, used: usize },

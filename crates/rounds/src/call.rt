@@ -3,7 +3,7 @@ use options::RaritySimulationOptions;
 use store::layout::Layout;
 
 // A search call without its slices: what is asked, how the store is cut, and where code and data are loaded.
-#[derive(Drop)]
+#[derive(Clone, Copy)]
 pub struct Call {
     pub options: RaritySimulationOptions,
     pub store: Layout,
@@ -12,7 +12,7 @@ pub struct Call {
 }
 
 // From what a round starts: so many rows kept at the front of the store, and so many tape words used.
-#[derive(Drop)]
+#[derive(Clone, Copy)]
 pub struct Start {
     pub kept: usize,
     pub used: usize,

@@ -1,4 +1,6 @@
 // The row of one executor, lent as two slices: its words and its marks. For the layers above.
+#![tactic(auto)]
+
 pub mod clear;
 pub mod limits;
 pub mod row;

@@ -1,5 +1,7 @@
 // The counter runner: a label program on a keyed order, without the search, for hosts. What the program writes goes to a lent output.
 // Nothing is asked of the caller; words are exactly 37 + W + L and marks 32 + W, as for an executor, and what is refused changes nothing.
+#![tactic(auto)]
+
 ghost use Rattle.std.specs.Prelude.{◌≡◌, ◌+◌, ◌*◌, ◌≤◌, ◌<◌, ◌^◌, length};
 ghost use Rattle.rows.specs.Rows.{row, Shape, limit_of, memory_in};
 ghost use Rattle.loader.specs.Loading.{image};
@@ -21,14 +23,14 @@ use machine::run::{Ran, run_to_write};
 use machine::write::write_to;
 
 // What the run of a label program answers, and how many bytes of the output it wrote.
-#[derive(Drop)]
+#[derive(Clone, Copy)]
 pub struct Printed {
     pub answer: RunAnswer,
     pub written: usize,
 }
 
 // How a run ended, and how many bytes it wrote.
-#[derive(Drop)]
+#[derive(Clone, Copy)]
 struct Served {
     ran: Ran,
     written: usize,

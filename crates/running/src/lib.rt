@@ -1,4 +1,6 @@
 // Every executor run for a step, in row order (the Rust's run_all). For the layers above.
+#![tactic(auto)]
+
 ghost use Rattle.std.specs.Prelude.{List, [], ◌∷◌, ◌++◌, map, ◌≡◌, ◌+◌, ◌<◌, ◌^◌, length, set};
 ghost use Rattle.rows.specs.Rows.{limit_of};
 ghost use Rattle.machine.specs.Runs.{Finished};
@@ -13,7 +15,7 @@ use machine::run::{Ran, run};
 use store::layout::Layout;
 
 // The first bug in row order, else the first error, else nothing; and how many tape words are used.
-#[derive(Drop)]
+#[derive(Clone, Copy)]
 pub struct AllRan {
     pub finding: Finding,
     pub used: usize,

@@ -1,5 +1,7 @@
 // Rarity for hosts: the rows of a lent store are scored among themselves, and nothing is asked of the caller.
 // What is refused changes nothing.
+#![tactic(auto)]
+
 ghost use Rattle.std.specs.Prelude.{◌≡◌, length};
 ghost use Rattle.checks.specs.Tests.{checked_by};
 ghost use Rattle.store.specs.Store.{Fit, rows_of};
@@ -17,7 +19,7 @@ use rows::limits::MOST_ROWS;
 use store::layout::Layout;
 
 // What scoring answers.
-#[derive(Drop)]
+#[derive(Clone, Copy)]
 pub enum ScoringAnswer {
     Scored,
     // The Rust's `expect`: scores that cannot be ordered.

@@ -7,7 +7,7 @@ use answers::finding::Finding;
 use checks::refusal::Refusal;
 
 // A call is refused, or it is searched.
-#[derive(Drop)]
+#[derive(Clone, Copy)]
 pub enum SearchAnswer {
     Refused(Refusal),
     // What was found, and how many tape words were taken.

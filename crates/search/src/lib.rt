@@ -1,4 +1,6 @@
 // The rarity search for hosts: a store is lent, and nothing is asked of the caller. What is refused changes nothing.
+#![tactic(auto)]
+
 ghost use Rattle.std.specs.Prelude.{◌≡◌};
 ghost use Rattle.checks.specs.Tests.{checked_by};
 ghost use Rattle.loader.specs.Loading.{image};

@@ -1,5 +1,7 @@
 // The rarest rows come first, and the others become zero (the Rust's select_rarest). For the layers above.
 // The order is found on numbers; then for each kept row at most one exchange of two rows is made.
+#![tactic(auto)]
+
 ghost use Rattle.std.specs.Prelude.{◌≡◌, length};
 ghost use Rattle.store.specs.Store.{Fit, rows_of};
 ghost use Rattle.rounds.specs.Rounds.{stored};

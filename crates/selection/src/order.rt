@@ -8,14 +8,14 @@ ghost use Rattle.selection.specs.Scanning.{lower_of, considered, lowest_in};
 use rows::limits::MOST_ROWS;
 
 // A row number and its score.
-#[derive(Drop)]
+#[derive(Clone, Copy)]
 pub struct ScoredRow {
     pub row: usize,
     pub score: f64,
 }
 
 // The lowest so far.
-#[derive(Drop)]
+#[derive(Clone, Copy)]
 enum Lowest {
     None,
     One(ScoredRow),

@@ -9,7 +9,7 @@ use options::{
 };
 
 // What a sheet begins with: its numbers in this order, eight bytes each.
-#[derive(Drop)]
+#[derive(Clone, Copy)]
 pub struct Fields {
     pub states: u64,
     pub step: u64,

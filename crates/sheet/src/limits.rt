@@ -15,7 +15,7 @@ pub const MOST_MEMORY: usize = 1024;
 pub const MOST_LOG: usize = 64;
 
 // The most bytes of a sheet, states, bytes of memory and log words.
-#[derive(Drop)]
+#[derive(Clone, Copy)]
 pub struct Limits {
     pub bytes: u64,
     pub states: u64,

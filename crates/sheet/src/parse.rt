@@ -9,7 +9,7 @@ use crate::limits::Limits;
 use options::{RaritySimulationOptions, mean_numbered};
 
 // Bytes of the sheet that are loaded at an address.
-#[derive(Drop)]
+#[derive(Clone, Copy)]
 pub struct Part {
     pub address: u64,
     pub offset: usize,
@@ -17,7 +17,7 @@ pub struct Part {
 }
 
 // What a sheet asks for.
-#[derive(Drop)]
+#[derive(Clone, Copy)]
 pub struct Sheet {
     pub options: RaritySimulationOptions,
     pub log: u64,
@@ -28,7 +28,7 @@ pub struct Sheet {
 }
 
 // Why some bytes are no sheet that the program takes.
-#[derive(Drop)]
+#[derive(Clone, Copy)]
 pub enum SheetError {
     SheetLength,
     PartPastEnd,
@@ -37,7 +37,7 @@ pub enum SheetError {
 }
 
 // What some bytes are as a sheet.
-#[derive(Drop)]
+#[derive(Clone, Copy)]
 pub enum Parsed {
     Refused(SheetError),
     Accepted(Sheet),

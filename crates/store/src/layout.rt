@@ -6,7 +6,7 @@ ghost use Rattle.store.specs.Store.{layout};
 use rows::row::{HEADER, REGISTERS};
 
 // So many rows, of so many words and so many marks each.
-#[derive(Drop)]
+#[derive(Clone, Copy)]
 pub struct Layout {
     pub rows: usize,
     pub words: usize,

@@ -1,4 +1,6 @@
 // Tavvinur for hosts in C and Rust: the proved entries as flat functions. Nothing is asked of the caller but that slices are what they say.
+#![tactic(auto)]
+
 ghost use Rattle.std.specs.Prelude.{◌≡◌, ◌≤◌, length};
 ghost use Rattle.rows.specs.Rows.{row};
 ghost use Rattle.loader.specs.Loading.{image};
@@ -17,7 +19,7 @@ use options::{RaritySimulationOptions, mean_number, mean_numbered};
 
 // The options of a search; `mean` is 0 for arithmetic, 1 for harmonic.
 #[repr(C)]
-#[derive(Drop)]
+#[derive(Clone, Copy)]
 pub struct Options {
     pub memory_size: u64,
     pub amount_of_states: u64,
@@ -30,7 +32,7 @@ pub struct Options {
 
 // What the run of a label program answers: number, pc, value and the input words taken as in an answer, and the bytes of the output that were written.
 #[repr(C)]
-#[derive(Drop)]
+#[derive(Clone, Copy)]
 pub struct Printed {
     pub number: u64,
     pub pc: u64,

@@ -1,9 +1,11 @@
 // Values, and how they are stored: a word and a mark beside it. For the layers above.
+#![tactic(auto)]
+
 ghost use Rattle.std.specs.Prelude.{◌≡◌, ◌<◌, length};
 ghost use Rattle.values.specs.Values.{value_at};
 
 // What a register or a memory word holds.
-#[derive(Drop)]
+#[derive(Clone, Copy)]
 pub enum Value {
     Concrete(u64),
     // Nobody wrote it.
@@ -11,6 +13,7 @@ pub enum Value {
 }
 
 // The value at place n of some words and their marks.
+#[tactic(auto, unfolding(crate::specs::Values::value_at))]
 pub fn value_at(words: &[u64], marks: &[u8], n: usize) -> Value
     requires n_in_bounds { n < length words.now }
     requires n_in_bounds_2 { n < length marks.now }

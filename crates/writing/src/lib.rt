@@ -1,4 +1,6 @@
 // Texts written at a place of a lent output. For the layers above.
+#![tactic(auto)]
+
 ghost use Rattle.std.specs.Prelude.{◌+◌, ◌≤◌, length};
 ghost use Rattle.writing.specs.Writing.{Wrote};
 
