@@ -20,6 +20,7 @@ pub enum Next {
     End(Outcome),
 }
 
+#[tactic(auto, unfolding(crate::specs::Execution::applied))]
 fn apply(words: &mut [u64], marks: &mut [u8], effect: Effect) -> Next
     requires shape { Shape words.old marks.old }
     requires in_reach { InReach (memory_in marks.old) effect }
@@ -57,6 +58,7 @@ fn apply(words: &mut [u64], marks: &mut [u8], effect: Effect) -> Next
 }
 
 // Carries out an instruction, but for a system call, which is left to the layer above.
+#[tactic(auto, unfolding(crate::specs::Execution::effect_in))]
 pub fn execute(words: &mut [u64], marks: &mut [u8], instruction: Instruction) -> Next
     requires shape { Shape words.old marks.old }
     requires registers { Registers instruction }

@@ -27,7 +27,6 @@ const KIND: u64 = 0x1000_0000_0000_0000;
 const ECALL: u64 = 0xD000_0000_0000_0073;
 
 // A table in which every entry is ecall.
-#[tactic(auto, unfolding(crate::specs::Table::instruction_of, riscu::specs::Decoding::decoded))]
 pub fn nothing_known() -> [u64; TABLE]
     ensures { Faithful result }
 {

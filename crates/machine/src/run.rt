@@ -61,7 +61,7 @@ fn run_to(
     ensures result_after { halted_as words.new marks.new result
         ≡ halted_for handing (limit - depth_of (row words.old marks.old)) tape.now used
         (row words.old marks.old) }
-    ensures faithful_2 { Faithful known.new }
+    ensures known_after { Faithful known.new }
 {
     let mut at = used;
     loop {
@@ -139,7 +139,7 @@ pub fn run_to_write(
     ensures result_after { halted_as words.new marks.new result
         ≡ paused_of step tape.now used (row words.old marks.old) }
     ensures handed_out { HandedOut (memory_in marks.old) result.step }
-    ensures faithful_2 { Faithful known.new }
+    ensures known_after { Faithful known.new }
 {
     let limit = words[LIMIT] + step as u64;
     words[LIMIT] = limit;

@@ -24,6 +24,7 @@ pub enum Drawn {
     Refused(ExecutorError),
 }
 
+#[tactic(auto, unfolding(crate::specs::Reading::drawn))]
 fn draw(words: &[u64], marks: &[u8], tape: &[u64], used: usize) -> Drawn
     requires { Shape words.now marks.now }
     ensures { result ≡ drawn_of tape.now used (row words.now marks.now) }
@@ -39,10 +40,11 @@ fn draw(words: &[u64], marks: &[u8], tape: &[u64], used: usize) -> Drawn
 }
 
 // Logs a word, and stores one in memory word m.
+#[tactic(auto, unfolding(crate::specs::Reading::recorded))]
 fn record(words: &mut [u64], marks: &mut [u8], m: usize, logged: u64, stored: u64)
     requires shape { Shape words.old marks.old }
     requires m_bound { m < memory_in marks.old }
-    requires marks_bound { log_count (row words.old marks.old) < log_room (row words.old marks.old) }
+    requires room { log_count (row words.old marks.old) < log_room (row words.old marks.old) }
     ensures { row words.new marks.new ≡ recorded m logged stored (row words.old marks.old) }
 {
     let count = words[LOG_COUNT] as usize;
@@ -61,6 +63,7 @@ fn refuse(error: ExecutorError, used: usize) -> Moved
     }
 }
 
+#[tactic(auto, unfolding(crate::specs::Reading::full_word))]
 fn read_word(words: &mut [u64], marks: &mut [u8], tape: &[u64], m: usize, used: usize) -> Moved
     requires shape { Shape words.old marks.old }
     requires m_bound { m < memory_in marks.old }
@@ -134,6 +137,7 @@ fn unit_of(k: u64) -> u64
 }
 
 // A tail of k bytes into memory word m, which holds `word`.
+#[tactic(auto, unfolding(crate::specs::Reading::tail, crate::specs::Reading::tail_of))]
 fn read_tail(
     words: &mut [u64],
     marks: &mut [u8],
@@ -170,6 +174,7 @@ fn read_tail(
     }
 }
 
+#[tactic(auto, unfolding(crate::specs::Reading::rest))]
 fn read_rest(
     words: &mut [u64],
     marks: &mut [u8],
@@ -196,6 +201,7 @@ fn read_rest(
 }
 
 // size bytes into the memory words from m on.
+#[tactic(auto, unfolding(crate::specs::Reading::bytes, crate::specs::Reading::onwards))]
 pub fn read_bytes(
     words: &mut [u64],
     marks: &mut [u8],

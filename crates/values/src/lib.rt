@@ -15,8 +15,8 @@ pub enum Value {
 // The value at place n of some words and their marks.
 #[tactic(auto, unfolding(crate::specs::Values::value_at))]
 pub fn value_at(words: &[u64], marks: &[u8], n: usize) -> Value
-    requires n_in_bounds { n < length words.now }
-    requires n_in_bounds_2 { n < length marks.now }
+    requires n_in_words { n < length words.now }
+    requires n_in_marks { n < length marks.now }
     ensures { result ≡ value_at words.now marks.now n }
 {
     if marks[n] == 0 {
