@@ -22,6 +22,7 @@ const STDIN: u64 = 0;
 
 const STDOUT: u64 = 1;
 
+#[tactic(auto, unfolding(crate::specs::Calls::brk, crate::specs::Calls::brk_progress))]
 fn execute_brk(words: &mut [u64], marks: &mut [u8], wanted: Value) -> Progress
     requires { Shape words.old marks.old }
     ensures value { result ≡ brk_progress wanted }
@@ -44,6 +45,7 @@ fn execute_brk(words: &mut [u64], marks: &mut [u8], wanted: Value) -> Progress
     Progress::Running
 }
 
+#[tactic(auto, unfolding(crate::specs::Calls::read_to, reading::specs::Reading::onwards))]
 fn read_to(words: &mut [u64], marks: &mut [u8], to: Transfer, tape: &[u64], used: usize) -> Moved
     requires shape { Shape words.old marks.old }
     requires in_memory { InMemory (memory_in marks.old) to }
@@ -75,6 +77,7 @@ fn read_to(words: &mut [u64], marks: &mut [u8], to: Transfer, tape: &[u64], used
     }
 }
 
+#[tactic(auto, unfolding(crate::specs::Calls::read))]
 fn execute_read(words: &mut [u64], marks: &mut [u8], tape: &[u64], used: usize) -> Moved
     requires { Shape words.old marks.old }
     ensures { reached words.new marks.new result ≡ read_of tape.now used (row words.old marks.old) }
@@ -110,6 +113,7 @@ fn all_concrete(words: &[u64], marks: &[u8], n: usize, m: usize) -> bool
     true
 }
 
+#[tactic(auto, unfolding(crate::specs::Calls::write_from))]
 fn write_from(words: &[u64], marks: &[u8], from: Transfer) -> Step
     requires shape { Shape words.now marks.now }
     requires in_memory { InMemory (memory_in marks.now) from }
@@ -130,6 +134,7 @@ fn write_from(words: &[u64], marks: &[u8], from: Transfer) -> Step
     }
 }
 
+#[tactic(auto, unfolding(crate::specs::Calls::write))]
 fn execute_write(words: &[u64], marks: &[u8]) -> Step
     requires { Shape words.now marks.now }
     ensures { result ≡ write_of (row words.now marks.now) }
@@ -147,6 +152,7 @@ fn execute_write(words: &[u64], marks: &[u8]) -> Step
     write_from(words, marks, from)
 }
 
+#[tactic(auto, unfolding(crate::specs::Calls::exit))]
 fn execute_exit(code: Value) -> Outcome
     ensures { result ≡ exit_of code }
 {
@@ -162,6 +168,7 @@ fn execute_exit(code: Value) -> Outcome
     }
 }
 
+#[tactic(auto, unfolding(crate::specs::Calls::id_of))]
 fn id_of(a7: Value) -> SyscallId
     ensures { result ≡ id_of a7 }
 {
@@ -171,6 +178,7 @@ fn id_of(a7: Value) -> SyscallId
     }
 }
 
+#[tactic(auto, unfolding(crate::specs::Calls::call_of))]
 fn execute_call(
     words: &mut [u64],
     marks: &mut [u8],
@@ -218,6 +226,7 @@ fn execute_call(
 }
 
 // The call that a7 names; pc moves on even where it errs.
+#[tactic(auto, unfolding(crate::specs::Calls::system))]
 pub fn execute_ecall(words: &mut [u64], marks: &mut [u8], tape: &[u64], used: usize) -> Stepped
     requires { Shape words.old marks.old }
     ensures { called words.new marks.new result ≡ system_of tape.now used (row words.old marks.old) }

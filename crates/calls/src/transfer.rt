@@ -47,6 +47,7 @@ fn out_of_range() -> Transfer
 }
 
 // A buffer whose end passes 2^64 - 1 is out of range, where the Rust panics.
+#[tactic(auto, unfolding(crate::specs::Calls::valid_range))]
 fn check_for_valid_memory_range(buffer: u64, size: u64, memory: u64) -> Transfer
     requires { memory < 2 ^ 60 }
     ensures { result ≡ valid_range buffer size memory }
@@ -64,6 +65,7 @@ fn check_for_valid_memory_range(buffer: u64, size: u64, memory: u64) -> Transfer
 }
 
 // The buffer that a1 and a2 name.
+#[tactic(auto, unfolding(crate::specs::Calls::buffer_and_size))]
 fn buffer_and_size(reasons: Reasons, a1: Value, a2: Value, memory: u64) -> Transfer
     requires { memory < 2 ^ 60 }
     ensures { result ≡ buffer_and_size reasons a1 a2 memory }
@@ -89,6 +91,7 @@ fn is_file(fd: u64, a0: Value) -> bool
 }
 
 // The buffer that a0, a1 and a2 name for a call on the file fd.
+#[tactic(auto, unfolding(crate::specs::Calls::transfer_of))]
 pub(crate) fn transfer_of(words: &[u64], marks: &[u8], fd: u64, reasons: Reasons) -> Transfer
     requires { Shape words.now marks.now }
     ensures { result ≡ transfer_of fd reasons (row words.now marks.now) }
