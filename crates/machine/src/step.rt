@@ -25,6 +25,7 @@ pub enum Fetched {
     Refused(ExecutorError),
 }
 
+#[tactic(auto, unfolding(crate::specs::Steps::half_at))]
 fn half_at(pc: u64, value: Value) -> Fetched
     ensures { result ≡ half_at pc value }
 {
@@ -40,6 +41,7 @@ fn half_at(pc: u64, value: Value) -> Fetched
     }
 }
 
+#[tactic(auto, unfolding(crate::specs::Steps::fetched))]
 fn fetch(words: &[u64], marks: &[u8]) -> Fetched
     requires { Shape words.now marks.now }
     ensures { result ≡ fetched (row words.now marks.now) }
@@ -53,6 +55,7 @@ fn fetch(words: &[u64], marks: &[u8]) -> Fetched
     }
 }
 
+#[tactic(auto, unfolding(crate::specs::Steps::followed))]
 fn follow(words: &mut [u64], marks: &mut [u8], next: Next, tape: &[u64], used: usize) -> Stepped
     requires { Shape words.old marks.old }
     ensures { called words.new marks.new result
@@ -82,6 +85,7 @@ pub(crate) fn fetch_next(words: &mut [u64], marks: &[u8]) -> Fetched
     fetch(words, marks)
 }
 
+#[tactic(auto, unfolding(crate::specs::Handing::handed))]
 fn settle(words: &mut [u64], marks: &mut [u8], step: Step, used: usize, handing: bool) -> Stepped
     requires { Shape words.old marks.old }
     ensures { called words.new marks.new result ≡ handed handing step used (row words.old marks.old) }
@@ -103,6 +107,7 @@ fn settle(words: &mut [u64], marks: &mut [u8], step: Step, used: usize, handing:
 }
 
 // An instruction; a write call is handed out, or completed at once: its bytes go nowhere then.
+#[tactic(auto, unfolding(crate::specs::Steps::executed))]
 pub(crate) fn advance(
     words: &mut [u64],
     marks: &mut [u8],

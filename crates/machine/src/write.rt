@@ -28,6 +28,7 @@ fn byte_at(words: &[u64], marks: &[u8], address: u64) -> u8
 }
 
 // Copies the bytes of a write call that was handed out, from its buffer on, to an output of the call's size, and completes the call.
+#[tactic(auto, unfolding(crate::specs::Writes::bytes_from))]
 pub fn write_to(words: &mut [u64], marks: &mut [u8], buffer: u64, output: &mut [u8])
     requires shape { Shape words.old marks.old }
     requires output_bound { buffer + length output.old ≤ 8 * memory_in marks.old }
