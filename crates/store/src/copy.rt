@@ -7,8 +7,8 @@ use crate::layout::Layout;
 
 // `count` elements from place `from` on are copied to place `to` on.
 fn copy_words(words: &mut [u64], from: usize, to: usize, count: usize)
-    requires count_bound { from + count ≤ to }
-    requires count_in_bounds { to + count ≤ length words.old }
+    requires apart { from + count ≤ to }
+    requires within { to + count ≤ length words.old }
     ensures { words.new ≡ part_copied from to count words.old }
 {
     let mut i = 0;
@@ -19,8 +19,8 @@ fn copy_words(words: &mut [u64], from: usize, to: usize, count: usize)
 }
 
 fn copy_marks(marks: &mut [u8], from: usize, to: usize, count: usize)
-    requires count_bound { from + count ≤ to }
-    requires count_in_bounds { to + count ≤ length marks.old }
+    requires apart { from + count ≤ to }
+    requires within { to + count ≤ length marks.old }
     ensures { marks.new ≡ part_copied from to count marks.old }
 {
     let mut i = 0;
@@ -33,8 +33,8 @@ fn copy_marks(marks: &mut [u8], from: usize, to: usize, count: usize)
 // Row `from` is copied over row `to`, which is a later one.
 pub fn copy_row(words: &mut [u64], marks: &mut [u8], store: Layout, from: usize, to: usize)
     requires fit { Fit store words.old marks.old }
-    requires from_lt_to { from < to }
-    requires to_lt_rows { to < store.rows }
+    requires later { from < to }
+    requires within { to < store.rows }
     ensures { rows_of store words.new marks.new ≡ row_copied from to (rows_of store words.old marks.old) }
 {
     copy_words(words, from * store.words, to * store.words, store.words);

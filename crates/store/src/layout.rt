@@ -16,8 +16,8 @@ pub struct Layout {
 impl Layout {
     // For rows of `memory` memory words and `log` log words each.
     pub fn new(rows: usize, memory: u64, log: u64) -> Layout
-        requires memory_le_most_memory { memory ≤ most_memory }
-        requires log_le_most_log { log ≤ most_log }
+        requires memory { memory ≤ most_memory }
+        requires log { log ≤ most_log }
         ensures { result ≡ layout rows memory log }
     {
         Layout {

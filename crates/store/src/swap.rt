@@ -7,8 +7,8 @@ use crate::layout::Layout;
 
 // `count` elements from place a on and from place b on change places.
 fn swap_words(words: &mut [u64], a: usize, b: usize, count: usize)
-    requires count_bound { a + count ≤ b }
-    requires count_in_bounds { b + count ≤ length words.old }
+    requires apart { a + count ≤ b }
+    requires within { b + count ≤ length words.old }
     ensures { words.new ≡ parts_swapped a b count words.old }
 {
     let mut i = 0;
@@ -21,8 +21,8 @@ fn swap_words(words: &mut [u64], a: usize, b: usize, count: usize)
 }
 
 fn swap_marks(marks: &mut [u8], a: usize, b: usize, count: usize)
-    requires count_bound { a + count ≤ b }
-    requires count_in_bounds { b + count ≤ length marks.old }
+    requires apart { a + count ≤ b }
+    requires within { b + count ≤ length marks.old }
     ensures { marks.new ≡ parts_swapped a b count marks.old }
 {
     let mut i = 0;
@@ -37,8 +37,8 @@ fn swap_marks(marks: &mut [u8], a: usize, b: usize, count: usize)
 // Rows a and b change places; they may be one row.
 pub fn swap_rows(words: &mut [u64], marks: &mut [u8], store: Layout, a: usize, b: usize)
     requires fit { Fit store words.old marks.old }
-    requires a_le_b { a ≤ b }
-    requires b_lt_rows { b < store.rows }
+    requires in_order { a ≤ b }
+    requires within { b < store.rows }
     ensures { rows_of store words.new marks.new ≡ rows_swapped a b (rows_of store words.old marks.old) }
 {
     if a < b {

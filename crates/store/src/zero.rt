@@ -7,7 +7,7 @@ use rows::clear::{clear_marks, clear_words};
 
 fn zero_row(words: &mut [u64], marks: &mut [u8], store: Layout, r: usize)
     requires fit { Fit store words.old marks.old }
-    requires r_lt_rows { r < store.rows }
+    requires within { r < store.rows }
     ensures { rows_of store words.new marks.new ≡ set (rows_of store words.old marks.old) r (zero_row store) }
 {
     let from_word = r * store.words;
@@ -19,7 +19,7 @@ fn zero_row(words: &mut [u64], marks: &mut [u8], store: Layout, r: usize)
 // The rows from `from` on become zero.
 pub fn zero_rows(words: &mut [u64], marks: &mut [u8], store: Layout, from: usize)
     requires fit { Fit store words.old marks.old }
-    requires from_le_rows { from ≤ store.rows }
+    requires within { from ≤ store.rows }
     ensures { rows_of store words.new marks.new ≡ rows_zeroed store from (rows_of store words.old marks.old) }
 {
     let mut r = from;
