@@ -21,9 +21,10 @@ const BYTE_STRIDE: usize = 8;
 pub const BYTES: u32 = 8;
 
 // The value at a place: pc is place 0, slot n is place 1 + n.
+#[tactic(auto, unfolding(crate::specs::Cells::place_at))]
 pub fn place_at(words: &[u64], marks: &[u8], place: usize) -> Value
     requires shape { Shape words.now marks.now }
-    requires place_in_bounds { place ≤ length marks.now }
+    requires within { place ≤ length marks.now }
     ensures { result ≡ place_at (row words.now marks.now) place }
 {
     if place == 0 {
@@ -34,6 +35,7 @@ pub fn place_at(words: &[u64], marks: &[u8], place: usize) -> Value
 }
 
 // The cell of a place's lowest byte.
+#[tactic(auto, using(crate::proofs::Places::base_zero, crate::proofs::Places::base_slot))]
 pub fn base_of(place: usize) -> usize
     requires { place ≤ most_marks }
     ensures { result ≡ base_of place }
@@ -53,7 +55,7 @@ pub fn base_of(place: usize) -> usize
 pub fn byte_of(x: u64, b: u32) -> u64
     requires { b < 8 }
     ensures value { result ≡ byte_of x b }
-    ensures upper_bound { result < 256 }
+    ensures a_byte { result < 256 }
 {
     (x >> (8 * b)) % 256
 }
@@ -65,6 +67,7 @@ enum Holder {
     Nowhere,
 }
 
+#[tactic(auto, unfolding(crate::specs::Probes::place_of))]
 fn place_of(base: usize) -> Holder
     ensures { result ≡ place_of base }
 {
@@ -85,11 +88,12 @@ fn place_of(base: usize) -> Holder
 }
 
 // Whether a row has a byte value in a cell as byte b of a word: 1 or 0. At most one word has its byte b in that cell.
+#[tactic(auto, unfolding(crate::specs::Probes::probe, crate::specs::Probes::matches_at, crate::specs::Probes::matches))]
 fn hit(words: &[u64], marks: &[u8], cell: usize, byte: u64, b: u32) -> u64
     requires shape { Shape words.now marks.now }
-    requires b_bound { b < 8 }
+    requires of_word { b < 8 }
     ensures value { result ≡ probe (row words.now marks.now) cell byte b }
-    ensures upper_bound { result ≤ 1 }
+    ensures at_most_one { result ≤ 1 }
 {
     let up = BYTE_STRIDE * (b as usize);
     if cell < up {
@@ -111,9 +115,9 @@ fn hit(words: &[u64], marks: &[u8], cell: usize, byte: u64, b: u32) -> u64
 // How often a row has a byte value in a cell.
 pub(crate) fn hits(words: &[u64], marks: &[u8], cell: usize, byte: u64) -> u64
     requires shape { Shape words.now marks.now }
-    requires byte_bound { byte < 256 }
+    requires a_byte { byte < 256 }
     ensures value { result ≡ occurrences (address_of cell byte) (addresses_of (row words.now marks.now)) }
-    ensures upper_bound { result ≤ 8 }
+    ensures at_most_eight { result ≤ 8 }
 {
     let mut n = 0;
     let mut b = 0;

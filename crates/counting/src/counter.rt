@@ -17,10 +17,10 @@ pub fn counter(
     byte: u64,
 ) -> u64
     requires fit { Fit store words.now marks.now }
-    requires flags_len { length flags.now ≡ store.rows }
-    requires byte_bound { byte < 256 }
+    requires a_flag_each { length flags.now ≡ store.rows }
+    requires a_byte { byte < 256 }
     ensures value { result ≡ counter_in (taking flags.now (rows_of store words.now marks.now)) (address_of cell byte) }
-    ensures upper_bound { result ≤ highest_counter }
+    ensures at_most { result ≤ highest_counter }
 {
     let mut n = 0;
     let mut r = 0;
