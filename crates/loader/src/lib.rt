@@ -50,9 +50,10 @@ fn load_segment(words: &mut [u64], marks: &mut [u8], address: u64, bytes: &[u8])
     }
 }
 
+#[tactic(auto, unfolding(crate::specs::Loading::started))]
 fn start(words: &mut [u64], marks: &mut [u8])
     requires shape { Shape words.old marks.old }
-    requires register_count_in_bounds { register_count < length marks.old }
+    requires some_memory { register_count < length marks.old }
     ensures { row words.new marks.new ≡ started (row words.old marks.old) }
 {
     let memory = marks.len() - REGISTERS;
@@ -62,6 +63,7 @@ fn start(words: &mut [u64], marks: &mut [u8])
 }
 
 // Sets a row up to run a program; what it held before is not cleared.
+#[tactic(auto, unfolding(crate::specs::Loading::programmed))]
 pub fn load_program(
     words: &mut [u64],
     marks: &mut [u8],
@@ -71,9 +73,9 @@ pub fn load_program(
     data: &[u8],
 )
     requires shape { Shape words.old marks.old }
-    requires register_count_in_bounds { register_count < length marks.old }
-    requires fits { Fits (memory_in marks.old) (segment code_address code.now) }
-    requires fits_2 { Fits (memory_in marks.old) (segment data_address «data».now) }
+    requires some_memory { register_count < length marks.old }
+    requires code_fits { Fits (memory_in marks.old) (segment code_address code.now) }
+    requires data_fits { Fits (memory_in marks.old) (segment data_address «data».now) }
     ensures { row words.new marks.new
         ≡ programmed (image code_address code.now data_address «data».now) (row words.old marks.old) }
 {
@@ -85,6 +87,7 @@ pub fn load_program(
 }
 
 // A new executor in a row, whatever the row held.
+#[tactic(auto, unfolding(crate::specs::Loading::new_executor))]
 pub fn new_executor(
     words: &mut [u64],
     marks: &mut [u8],
@@ -94,9 +97,9 @@ pub fn new_executor(
     data: &[u8],
 )
     requires shape { Shape words.old marks.old }
-    requires register_count_in_bounds { register_count < length marks.old }
-    requires fits { Fits (memory_in marks.old) (segment code_address code.now) }
-    requires fits_2 { Fits (memory_in marks.old) (segment data_address «data».now) }
+    requires some_memory { register_count < length marks.old }
+    requires code_fits { Fits (memory_in marks.old) (segment code_address code.now) }
+    requires data_fits { Fits (memory_in marks.old) (segment data_address «data».now) }
     ensures { row words.new marks.new
         ≡ new_executor (image code_address code.now data_address «data».now) (length words.old)
         (length marks.old) }

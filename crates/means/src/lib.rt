@@ -22,7 +22,6 @@ pub struct Tally {
 
 impl Tally {
     // Of no counters.
-    #[tactic(auto, unfolding(crate::specs::Means::reciprocals, crate::specs::Means::sum))]
     pub fn new() -> Tally
         ensures { result ≡ tally [] }
     {
