@@ -15,6 +15,7 @@ pub fn number_at(numbers: &[u64], at: usize) -> u64
 }
 
 // The length in a column. One above the most is cut down to it, and then the line is not whole.
+#[tactic(auto, unfolding(crate::specs::Columns::cut_to))]
 pub fn length_at(numbers: &[u64], at: usize, most: usize) -> usize
     ensures upper_bound { result ≤ most }
     ensures value { result ≡ length_at numbers.now at most }
@@ -52,10 +53,11 @@ pub fn byte_of(word: u64, place: u64) -> u8
 }
 
 // The bytes of the words in the columns from this one on.
+#[tactic(auto, unfolding(crate::specs::Columns::bytes_at))]
 pub fn bytes_at(numbers: &[u64], at: usize) -> [u8; MOST_BYTES]
     requires { at ≤ 1000 }
-    ensures value { 512 ≡ length result }
-    ensures value_2 { result ≡ bytes_at 512 numbers.now at }
+    ensures count { 512 ≡ length result }
+    ensures value { result ≡ bytes_at 512 numbers.now at }
 {
     let mut bytes = [0; MOST_BYTES];
     let mut i = 0;

@@ -18,6 +18,7 @@ const TURNED_OUT: u64 = 41;
 const SHIFT: u64 = 5;
 
 // Xor, a turn, and times 33.
+#[tactic(auto, unfolding(crate::specs::Digests::put))]
 fn with(digest: u64, number: u64) -> u64
     ensures { result ≡ put digest number }
 {
@@ -26,6 +27,7 @@ fn with(digest: u64, number: u64) -> u64
     std::num::wrapping_add_u64(turned, turned << SHIFT)
 }
 
+#[tactic(auto, unfolding(crate::specs::Digests::put_all))]
 fn with_words(before: u64, words: &[u64]) -> u64
     ensures { result ≡ put_all before words.now }
 {
@@ -45,6 +47,7 @@ fn wide(mark: u8) -> u64
 }
 
 // A digest with marks, or other bytes, after it.
+#[tactic(auto, unfolding(crate::specs::Digests::put_all))]
 pub fn with_marks(before: u64, marks: &[u8]) -> u64
     ensures { result ≡ put_all before marks.now }
 {

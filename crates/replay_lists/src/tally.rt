@@ -1,8 +1,8 @@
 // How many cases agree, and how many lines that are wrong on purpose disagree.
-ghost use Rattle.std.specs.Prelude.{◌≡◌, false};
+ghost use Rattle.std.specs.Prelude.{◌≡◌, false, IfOk};
 ghost use Rattle.replay_lists.specs.Tallies.{plus, one_if, nothing, with_case, with_wrong, with_line};
 
-use libc::STDOUT_FILENO;
+use std::io;
 
 // What came of a line.
 #[derive(Clone, Copy)]
@@ -34,38 +34,40 @@ pub fn disagrees(parts: u64) -> Judged
 }
 
 // Stops at the largest number, which no list reaches.
+#[tactic(auto, unfolding(crate::specs::Tallies::plus))]
 fn sum(a: u64, b: u64) -> u64
     ensures { result ≡ plus a b }
 {
     if b <= u64::MAX - a { a + b } else { u64::MAX }
 }
 
+#[tactic(auto, unfolding(crate::specs::Tallies::one_if))]
 fn one_if(condition: bool) -> u64
     ensures { result ≡ one_if condition }
 {
     if condition { 1 } else { 0 }
 }
 
-fn print(text: &[u8]) {
-    io::write_all(STDOUT_FILENO, text);
+fn print(rt: &impl Print, text: &[u8]) -> io::Result<()> {
+    rt.write_all(text)
 }
 
-fn print_number(n: u64) {
-    io::print_decimal(STDOUT_FILENO, n);
+fn print_number(rt: &impl Print, n: u64) -> io::Result<()> {
+    rt.print(n)
 }
 
 // As `3 of 4`.
-fn print_of(some: u64, all: u64) {
-    print_number(some);
-    print(b" of ");
-    print_number(all);
+fn print_of(rt: &impl Print, some: u64, all: u64) -> io::Result<()> {
+    print_number(rt, some)?;
+    print(rt, b" of ")?;
+    print_number(rt, all)
 }
 
 // Tells the number of a line that is not as it must be.
-fn print_line(number: u64, text: &[u8]) {
-    print(b"line ");
-    print_number(number);
-    print(text);
+fn print_line(rt: &impl Print, number: u64, text: &[u8]) -> io::Result<()> {
+    print(rt, b"line ")?;
+    print_number(rt, number)?;
+    print(rt, text)
 }
 
 impl Tally {
@@ -106,6 +108,7 @@ impl Tally {
         }
     }
 
+    #[tactic(auto, unfolding(crate::specs::Tallies::with_line))]
     fn with(self, judged: Judged, wrong: bool) -> Tally
         ensures { result ≡ with_line self judged wrong }
     {
@@ -117,38 +120,39 @@ impl Tally {
     }
 
     // What is told of the line that was counted last.
-    fn tell(self, agrees: bool, wrong: bool) {
+    fn tell(self, rt: &impl Print, agrees: bool, wrong: bool) -> io::Result<()> {
         let number = sum(self.cases, self.wrong);
         if agrees && wrong {
-            print_line(number, b" is wrong on purpose, and agrees\n");
+            print_line(rt, number, b" is wrong on purpose, and agrees\n")?;
         }
         if !agrees && !wrong {
-            print_line(number, b" disagrees\n");
+            print_line(rt, number, b" disagrees\n")?;
         }
+        Ok(())
     }
 
     // Counts a line, and tells the number of a case that disagrees or of a line that is wrong on purpose and agrees. What is
     // told no contract can say.
-    pub fn counted(self, judged: Judged, wrong: bool) -> Tally
-        ensures { result ≡ with_line self judged wrong }
+    pub fn counted(self, rt: &impl Print, judged: Judged, wrong: bool) -> io::Result<Tally>
+        ensures { IfOk result (λ tally. tally ≡ with_line self judged wrong) }
     {
         let tally = self.with(judged, wrong);
-        tally.tell(judged.agrees, wrong);
-        tally
+        tally.tell(rt, judged.agrees, wrong)?;
+        Ok(tally)
     }
 
     // As `label programs: 3 of 3 cases agree, 7 runs; 2 of 2 lines that are wrong on purpose disagree`. No contract can say
     // what is printed; `rt check` holds it to the program's file `stdout`.
-    pub fn print(self, name: &[u8], parts: &[u8]) {
-        print(name);
-        print(b": ");
-        print_of(self.agree, self.cases);
-        print(b" cases agree, ");
-        print_number(self.parts);
-        print(b" ");
-        print(parts);
-        print(b"; ");
-        print_of(self.disagree, self.wrong);
-        print(b" lines that are wrong on purpose disagree\n");
+    pub fn print(self, rt: &impl Print, name: &[u8], parts: &[u8]) -> io::Result<()> {
+        print(rt, name)?;
+        print(rt, b": ")?;
+        print_of(rt, self.agree, self.cases)?;
+        print(rt, b" cases agree, ")?;
+        print_number(rt, self.parts)?;
+        print(rt, b" ")?;
+        print(rt, parts)?;
+        print(rt, b"; ")?;
+        print_of(rt, self.disagree, self.wrong)?;
+        print(rt, b" lines that are wrong on purpose disagree\n")
     }
 }
