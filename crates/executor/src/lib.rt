@@ -26,6 +26,7 @@ pub enum RunAnswer {
 
 const ONE_ROW: u64 = 1;
 
+#[tactic(auto, unfolding(checks::specs::Tests::checked_by))]
 fn check_sizes(words: &[u64], marks: &[u8], memory: u64, log: u64) -> Checked
     ensures { result ≡ checked_by (size_tests memory log (row words.now marks.now)) }
 {
@@ -48,6 +49,7 @@ fn check_sizes(words: &[u64], marks: &[u8], memory: u64, log: u64) -> Checked
 }
 
 // Makes a new executor of a program in a lent row.
+#[tactic(auto, unfolding(crate::specs::Entries::created_row))]
 pub fn new_executor(
     words: &mut [u64],
     marks: &mut [u8],
@@ -76,6 +78,7 @@ pub fn new_executor(
 }
 
 // Runs a lent row for at most `step` instructions more, on a lent tape from its front.
+#[tactic(auto, unfolding(crate::specs::Entries::run_entry, crate::specs::Entries::run_answered))]
 pub fn run(
     words: &mut [u64],
     marks: &mut [u8],
