@@ -26,11 +26,11 @@ fn tally_word(
     x: u64,
 ) -> Tally
     requires fit { Fit store words.now marks.now }
-    requires flags_len { length flags.now ≡ store.rows }
-    requires place_le_marks { place ≤ store.marks }
-    requires within { Within (8 * place) so_far }
+    requires a_flag_each { length flags.now ≡ store.rows }
+    requires place { place ≤ store.marks }
+    requires small { Within (8 * place) so_far }
     ensures taken { Taken (taking flags.now (rows_of store words.now marks.now)) so_far (byte_addresses place x 8) result }
-    ensures within_2 { Within (8 * (place + 1)) result }
+    ensures small { Within (8 * (place + 1)) result }
 {
     let base = base_of(place);
     let mut t = so_far;
@@ -47,8 +47,8 @@ fn tally_word(
 // The value at a place of row r.
 fn value_at(words: &[u64], marks: &[u8], store: Layout, r: usize, place: usize) -> Value
     requires fit { Fit store words.now marks.now }
-    requires r_lt_rows { r < store.rows }
-    requires place_le_marks { place ≤ store.marks }
+    requires row { r < store.rows }
+    requires place { place ≤ store.marks }
     ensures { result ≡ place_at (nth_row (rows_of store words.now marks.now) r) place }
 {
     let word = r * store.words;
@@ -63,10 +63,10 @@ fn value_at(words: &[u64], marks: &[u8], store: Layout, r: usize, place: usize) 
 // The counters of row r among the rows that take part, all of them in list order.
 fn tally_row(words: &[u64], marks: &[u8], store: Layout, flags: &[bool], r: usize) -> Tally
     requires fit { Fit store words.now marks.now }
-    requires flags_len { length flags.now ≡ store.rows }
-    requires r_lt_rows { r < store.rows }
+    requires a_flag_each { length flags.now ≡ store.rows }
+    requires row { r < store.rows }
     ensures value { result ≡ tally (row_counters flags.now (rows_of store words.now marks.now) r) }
-    ensures within { Within most_counters result }
+    ensures small { Within most_counters result }
 {
     let mut t = Tally::new();
     let mut place = 0;
@@ -81,6 +81,7 @@ fn tally_row(words: &[u64], marks: &[u8], store: Layout, flags: &[bool], r: usiz
 }
 
 // The score of row r among the rows that take part.
+#[tactic(auto, unfolding(crate::specs::Scores::score))]
 fn score_row(
     words: &[u64],
     marks: &[u8],
@@ -90,8 +91,8 @@ fn score_row(
     r: usize,
 ) -> f64
     requires fit { Fit store words.now marks.now }
-    requires flags_len { length flags.now ≡ store.rows }
-    requires r_lt_rows { r < store.rows }
+    requires a_flag_each { length flags.now ≡ store.rows }
+    requires row { r < store.rows }
     ensures { result ≡ row_score mean flags.now (rows_of store words.now marks.now) r }
 {
     let t = tally_row(words, marks, store, flags, r);
@@ -108,8 +109,8 @@ pub fn score_rows(
     scores: &mut [f64],
 )
     requires fit { Fit store words.now marks.now }
-    requires flags_len { length flags.now ≡ store.rows }
-    requires scores_len { length scores.old ≡ store.rows }
+    requires a_flag_each { length flags.now ≡ store.rows }
+    requires a_score_each { length scores.old ≡ store.rows }
     ensures { scores.new ≡ flagged_scores mean flags.now (rows_of store words.now marks.now) }
 {
     let mut r = 0;

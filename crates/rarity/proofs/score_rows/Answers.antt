@@ -1,0 +1,28 @@
+use Rattle.std.proofs.Common.{◌≡◌, refl, arith}
+use Rattle.std.specs.Float.Ieee.{of_bits, binary64, of_int}
+use Rattle.means.specs.Means.{whole}
+use Rattle.store.proofs.Rows.{length_rows}
+use Rattle.rarity.proofs.Turns.{score_taking, score_zero, scores_end}
+use Rattle.rarity.proofs.score_rows.Goals as goal
+use Rattle.rarity.proofs.score_rows.Goals.{then-flags-r, else-flags-r}
+
+float_zero : of_bits binary64 0 ≡ whole 0
+unfolding of_int of_bits
+float_zero = refl
+
+pub loop-r-preserved : goal.loop-r-preserved
+loop-r-preserved c =
+    let a = c.requires.a_flag_each in
+    let h = c.loop-r.invariant.written in
+    let l = c.loop-r-test.true in
+    record {
+      within = omega arith;
+      written =
+          elim c.if-flags-r.branch [
+            | then-flags-r w ↦ score_taking a (length_rows _ _ _ _ _) h l w.if-flags-r.true w.score_row.ensures w.scores-is
+            | else-flags-r w ↦ score_zero a (length_rows _ _ _ _ _) h l w.if-flags-r.false float_zero w.scores-is
+          ];
+    }
+
+pub returns : goal.returns
+returns c = scores_end c.requires.a_flag_each (length_rows _ _ _ _ _) c.loop-r.invariant.written c.loop-r-test.false

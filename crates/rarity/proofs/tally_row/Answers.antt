@@ -1,0 +1,25 @@
+use Rattle.std.proofs.Common.{arith}
+use Rattle.rarity.proofs.Turns.{places_none, place_turn, place_skip, places_end, marks_in_row}
+use Rattle.rarity.proofs.tally_row.Goals as goal
+use Rattle.rarity.proofs.tally_row.Goals.{in-Concrete, in_default}
+
+pub loop-place-init : goal.loop-place-init
+loop-place-init c = record { within = omega arith; counted = places_none c.new-t.ensures }
+
+pub loop-place-preserved : goal.loop-place-preserved
+loop-place-preserved c =
+    let d = c.value_at-value.ensures in
+    let h = c.loop-place.invariant.counted in
+    record {
+      within = omega arith;
+      counted =
+          elim c.match-value.branch [
+            | in-Concrete w ↦ place_turn d h _ w.in-Concrete.is w.tally_word-t.ensures.taken w.tally_word-t.ensures.small w.t-is
+            | in_default w ↦ place_skip d h w.in_default.is w.t-is
+          ];
+    }
+
+pub returns-clause-value : goal.returns-clause-value
+returns-clause-value c =
+    let n = marks_in_row c.requires.fit c.args.r c.requires.row in
+    (places_end c.loop-place.invariant.counted (omega (arith, n)) (omega (arith, n))).0
