@@ -53,6 +53,7 @@ pub fn default_mean() -> MeanType
 
 impl RaritySimulationOptions {
     // The default options: those that the Rust's command line starts from, but for the number of states.
+    #[tactic(auto, unfolding(crate::specs::Defaults::default_options))]
     pub fn default() -> RaritySimulationOptions
         ensures { result ≡ default_options }
     {
