@@ -8,12 +8,12 @@ mod creation;
 mod list;
 mod running;
 
-fn main() {
-    let fd = os::open_read(b"cases");
-    if fd < 0 {
-        io::write_all(libc::STDOUT_FILENO, b"cases: cannot be opened\n");
-        return;
-    }
-    list::replay(fd).print(b"label programs", b"runs");
-    libc::close(fd);
+use std::fs::File;
+use std::io;
+
+fn main(rt: HostRuntime) -> io::Result<()> {
+    let Ok(file) = File::open(&rt, "cases") else {
+        return rt.write_all(b"cases: cannot be opened\n");
+    };
+    list::replay(&rt, &file)?.print(&rt, b"label programs", b"runs")
 }

@@ -10,52 +10,52 @@ mod results;
 mod tally;
 
 use list::List;
+use std::fs::File;
+use std::io;
+use std::rt::Files;
 use tally::{Tally, print, print_number, print_of};
 
 // Replays the list of this name. One that is missing is told, and has no lines.
-fn replay(name: &[u8], list: List) -> Tally {
-    let fd = os::open_read(name);
-    if fd < 0 {
-        print(name);
-        print(b": cannot be opened\n");
-        return Tally::new();
-    }
-    let tally = list::replay(fd, list);
-    libc::close(fd);
-    tally
+fn replay(rt: &(impl Files<File = File> + Print), name: &str, list: List) -> io::Result<Tally> {
+    let Ok(file) = File::open(rt, name) else {
+        print(rt, name.as_bytes())?;
+        print(rt, b": cannot be opened\n")?;
+        return Ok(Tally::new());
+    };
+    list::replay(rt, &file, list)
 }
 
-fn print_agreeing(name: &[u8], t: Tally) {
-    print(name);
-    print(b": ");
-    print_of(t.agree, t.lines);
-    print(b" agree");
+fn print_agreeing(rt: &impl Print, name: &[u8], t: Tally) -> io::Result<()> {
+    print(rt, name)?;
+    print(rt, b": ")?;
+    print_of(rt, t.agree, t.lines)?;
+    print(rt, b" agree")
 }
 
-fn print_departures(t: Tally) {
-    print(b", ");
-    print_number(t.departures);
-    print(b" of them departures from the manual: ");
-    print_number(t.lui);
-    print(b" lui, ");
-    print_number(t.jalr);
-    print(b" jalr, ");
-    print_number(t.zero_divisors);
-    print(b" zero divisors");
+fn print_departures(rt: &impl Print, t: Tally) -> io::Result<()> {
+    print(rt, b", ")?;
+    print_number(rt, t.departures)?;
+    print(rt, b" of them departures from the manual: ")?;
+    print_number(rt, t.lui)?;
+    print(rt, b" lui, ")?;
+    print_number(rt, t.jalr)?;
+    print(rt, b" jalr, ")?;
+    print_number(rt, t.zero_divisors)?;
+    print(rt, b" zero divisors")
 }
 
-fn print_wrong(t: Tally) {
-    print(b"; ");
-    print_of(t.disagree, t.wrong);
-    print(b" lines that are wrong on purpose disagree\n");
+fn print_wrong(rt: &impl Print, t: Tally) -> io::Result<()> {
+    print(rt, b"; ")?;
+    print_of(rt, t.disagree, t.wrong)?;
+    print(rt, b" lines that are wrong on purpose disagree\n")
 }
 
-fn main() {
-    let decodings = replay(b"decodings", List::Decodings);
-    print_agreeing(b"decodings", decodings);
-    print_wrong(decodings);
-    let results = replay(b"results", List::Results);
-    print_agreeing(b"results", results);
-    print_departures(results);
-    print_wrong(results);
+fn main(rt: HostRuntime) -> io::Result<()> {
+    let decodings = replay(&rt, "decodings", List::Decodings)?;
+    print_agreeing(&rt, b"decodings", decodings)?;
+    print_wrong(&rt, decodings)?;
+    let results = replay(&rt, "results", List::Results)?;
+    print_agreeing(&rt, b"results", results)?;
+    print_departures(&rt, results)?;
+    print_wrong(&rt, results)
 }

@@ -1,5 +1,5 @@
 // How many lines of a list agree, and how many lines that are wrong on purpose disagree.
-use libc::STDOUT_FILENO;
+use std::io;
 
 // Where document 01 departs from the manual, by the mark of a line.
 #[derive(Clone, Copy)]
@@ -35,19 +35,19 @@ fn one_more(n: u64) -> u64 {
     if n < u64::MAX { n + 1 } else { n }
 }
 
-pub(crate) fn print(text: &[u8]) {
-    io::write_all(STDOUT_FILENO, text);
+pub(crate) fn print(rt: &impl Print, text: &[u8]) -> io::Result<()> {
+    rt.write_all(text)
 }
 
-pub(crate) fn print_number(n: u64) {
-    io::print_decimal(STDOUT_FILENO, n);
+pub(crate) fn print_number(rt: &impl Print, n: u64) -> io::Result<()> {
+    rt.print(n)
 }
 
 // As `3 of 4`.
-pub(crate) fn print_of(some: u64, all: u64) {
-    print_number(some);
-    print(b" of ");
-    print_number(all);
+pub(crate) fn print_of(rt: &impl Print, some: u64, all: u64) -> io::Result<()> {
+    print_number(rt, some)?;
+    print(rt, b" of ")?;
+    print_number(rt, all)
 }
 
 impl Tally {
@@ -75,49 +75,49 @@ impl Tally {
     }
 
     // Tells the number of the line that was counted last, which is not as it must be.
-    fn tell(self, text: &[u8]) {
-        print(b"line ");
-        print_number(std::num::wrapping_add_u64(self.lines, self.wrong));
-        print(text);
+    fn tell(self, rt: &impl Print, text: &[u8]) -> io::Result<()> {
+        print(rt, b"line ")?;
+        print_number(rt, std::num::wrapping_add_u64(self.lines, self.wrong))?;
+        print(rt, text)
     }
 
-    fn with_case(mut self, verdict: Verdict) -> Tally {
+    fn with_case(mut self, rt: &impl Print, verdict: Verdict) -> io::Result<Tally> {
         self.lines = one_more(self.lines);
         match verdict {
             Verdict::Disagrees => {
-                self.tell(b" disagrees\n");
-                self
+                self.tell(rt, b" disagrees\n")?;
+                Ok(self)
             }
             Verdict::Agrees => {
                 self.agree = one_more(self.agree);
-                self
+                Ok(self)
             }
             Verdict::Departs(departure) => {
                 self.agree = one_more(self.agree);
-                self.with_departure(departure)
+                Ok(self.with_departure(departure))
             }
         }
     }
 
-    fn with_wrong(mut self, verdict: Verdict) -> Tally {
+    fn with_wrong(mut self, rt: &impl Print, verdict: Verdict) -> io::Result<Tally> {
         self.wrong = one_more(self.wrong);
         match verdict {
             Verdict::Disagrees => {
                 self.disagree = one_more(self.disagree);
-                self
+                Ok(self)
             }
             _ => {
-                self.tell(b" is wrong on purpose, and agrees\n");
-                self
+                self.tell(rt, b" is wrong on purpose, and agrees\n")?;
+                Ok(self)
             }
         }
     }
 
-    pub(crate) fn with(self, verdict: Verdict, wrong: bool) -> Tally {
+    pub(crate) fn with(self, rt: &impl Print, verdict: Verdict, wrong: bool) -> io::Result<Tally> {
         if wrong {
-            self.with_wrong(verdict)
+            self.with_wrong(rt, verdict)
         } else {
-            self.with_case(verdict)
+            self.with_case(rt, verdict)
         }
     }
 }
