@@ -24,6 +24,7 @@ pub enum Filling {
 
 // How many of the missing executors are copies: the product rounded to the nearest whole number, halves up.
 // Twice the product is exact, so what is left to round is a half.
+#[tactic(auto, unfolding(rounds::specs::Copies::to_copy))]
 fn to_copy(missing: usize, ratio: f64) -> usize
     requires missing_le_most_rows { missing ≤ most_rows }
     requires t { T (is_copy_ratio ratio) }
