@@ -18,7 +18,6 @@ use Rattle.rarity.specs.Scores.{score}
 use Rattle.rarity.proofs.Bounds.{scored, scores_ordered}
 use Rattle.scoring.specs.Entry.{scoring_checked, scoring_answer, scores_left, store_rows, store_scores, Bounded, AlwaysScored, ScoresBounded}
 use Rattle.scoring.specs.declared.ScoringAnswer.{ScoringAnswer}
-use Rattle.scoring.specs.declared.ScoringAnswer.TheVariants as answer
 use Rattle.scoring.proofs.Accepted.{accepted_sizes}
 
 -- no row has more marks than are cut for it
@@ -65,6 +64,11 @@ module _ (memory log rows : ℕ) (m : MeanType) (words marks : List ℕ) (lent :
       let all = store_rows memory log rows words marks in
       rw (l, always_scored e h) (bounded_among m all (few h) (short h) all (λ r i. i))
 
-  pub promised : {a : ScoringAnswer} {scores : List Float} → Answers a → Leaves a scores
-      → Answers a × (Leaves a scores × (AlwaysScored memory log rows words marks lent a × ScoresBounded memory log rows m words marks lent scores))
-  promised e l = (e, (l, (always_scored e, scores_bounded e l)))
+  -- the four clauses of the entry
+  pub promised : {a : ScoringAnswer} {scores : List Float} → Answers a → Leaves a scores → record {
+    value : Answers a;
+    scores_after : Leaves a scores;
+    always_scored : AlwaysScored memory log rows words marks lent a;
+    scores_bounded : ScoresBounded memory log rows m words marks lent scores;
+  }
+  promised e l = record { value = e; scores_after = l; always_scored = always_scored e; scores_bounded = scores_bounded e l }

@@ -60,6 +60,7 @@ fn all_valid(words: &[u64], marks: &[u8], store: Layout) -> bool
     true
 }
 
+#[tactic(auto, unfolding(checks::specs::Tests::checked_by))]
 fn check_sizes(
     words: &[u64],
     marks: &[u8],
@@ -106,6 +107,7 @@ fn copy_scores(from: &[f64], to: &mut [f64])
 }
 
 // Scores all rows; the lent scores are written only if they can be ordered.
+#[tactic(auto, unfolding(crate::specs::Entry::scores_left))]
 fn score_store(
     words: &[u64],
     marks: &[u8],
@@ -114,7 +116,7 @@ fn score_store(
     scores: &mut [f64],
 ) -> ScoringAnswer
     requires fit { Fit store words.now marks.now }
-    requires scores_len { length scores.old ≡ store.rows }
+    requires a_score_each { length scores.old ≡ store.rows }
     ensures value { result ≡ ordered_answer (are_ordered (scores_of mean (rows_of store words.now marks.now))) }
     ensures scores_after { scores.new ≡ scores_left result (scores_of mean (rows_of store words.now marks.now)) scores.old }
 {
@@ -130,6 +132,7 @@ fn score_store(
 }
 
 // Scores `rows` rows of a memory of `memory` bytes and `log` log words each, one score a row.
+#[tactic(auto, unfolding(crate::specs::Entry::scores_left))]
 pub fn score_with_mean(
     words: &[u64],
     marks: &[u8],
