@@ -59,6 +59,7 @@ pub(crate) fn read_fields(sheet: &[u8]) -> Fields
     }
 }
 
+#[tactic(auto, unfolding(crate::specs::Sheets::or_default))]
 fn or_default(x: u64, default: u64) -> u64
     ensures { result ≡ or_default x default }
 {

@@ -176,6 +176,7 @@ fn parse_fields(limits: Limits, n: u64, f: Fields) -> Parsed
 }
 
 // What some bytes are as a sheet. For the crate report.
+#[tactic(auto, unfolding(crate::specs::Sheets::parsed))]
 pub fn parse(sheet: &[u8], limits: Limits) -> Parsed
     ensures { result ≡ parsed limits sheet.now }
 {
