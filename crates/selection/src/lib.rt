@@ -24,10 +24,10 @@ pub fn select_rarest(
     selection: usize,
 ) -> usize
     requires fit { Fit store words.old marks.old }
-    requires scores_len { length scores.now ≡ store.rows }
-    requires flags_len { length flags.now ≡ store.rows }
+    requires a_score_each { length scores.now ≡ store.rows }
+    requires a_flag_each { length flags.now ≡ store.rows }
     ensures value { result ≡ length (kept_numbers selection scores.now flags.now) }
-    ensures marks_after { rows_of store words.new marks.new
+    ensures rows { rows_of store words.new marks.new
         ≡ stored store (kept_rows selection scores.now flags.now (rows_of store words.old marks.old)) }
 {
     let mut order = [0usize; MOST_ROWS];

@@ -22,6 +22,7 @@ enum Lowest {
 }
 
 // The lower of the two: the first where they are equal.
+#[tactic(auto, using(crate::proofs::Finding::lower_is, crate::proofs::Finding::lower_stays))]
 fn lower_of(best: ScoredRow, x: ScoredRow) -> ScoredRow
     ensures { result ≡ lower_of best x }
 {
@@ -67,10 +68,10 @@ fn next_rarest(scores: &[f64], live: &[bool]) -> Lowest
 
 // The numbers of the rows to keep, in the order in which they are kept. The flag of each is cleared.
 fn find_order(scores: &[f64], live: &mut [bool], order: &mut [usize], selection: usize) -> usize
-    requires scores_in_bounds { length scores.now ≤ length live.old }
-    requires scores_in_bounds_2 { length scores.now ≤ length order.old }
+    requires a_flag_each { length scores.now ≤ length live.old }
+    requires room { length scores.now ≤ length order.old }
     ensures value { result ≡ length (kept_numbers selection scores.now live.old) }
-    ensures order_after { take result order.new ≡ kept_numbers selection scores.now live.old }
+    ensures order { take result order.new ≡ kept_numbers selection scores.now live.old }
 {
     let mut kept = 0;
     while kept < selection {
@@ -108,11 +109,11 @@ pub(crate) fn order_of(
     order: &mut [usize],
     selection: usize,
 ) -> usize
-    requires scores_in_bounds { length scores.now ≤ length flags.now }
-    requires flags_len_bound { length flags.now ≤ most_rows }
-    requires scores_in_bounds_2 { length scores.now ≤ length order.old }
+    requires a_flag_each { length scores.now ≤ length flags.now }
+    requires few_flags { length flags.now ≤ most_rows }
+    requires room { length scores.now ≤ length order.old }
     ensures value { result ≡ length (kept_numbers selection scores.now flags.now) }
-    ensures order_after { take result order.new ≡ kept_numbers selection scores.now flags.now }
+    ensures order { take result order.new ≡ kept_numbers selection scores.now flags.now }
 {
     let mut live = [false; MOST_ROWS];
     copy_flags(flags, &mut live);

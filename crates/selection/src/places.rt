@@ -27,12 +27,12 @@ fn note(
     incoming: usize,
     displaced: usize,
 )
-    requires place_in_bounds { place < length row_at_place.old }
-    requires from_in_bounds { from < length row_at_place.old }
-    requires incoming_in_bounds { incoming < length place_of_row.old }
-    requires displaced_in_bounds { displaced < length place_of_row.old }
-    ensures place_of_row_after { place_of_row.new ≡ set (set place_of_row.old displaced from) incoming place }
-    ensures row_at_place_after { row_at_place.new ≡ set (set row_at_place.old from displaced) place incoming }
+    requires place { place < length row_at_place.old }
+    requires from { from < length row_at_place.old }
+    requires incoming { incoming < length place_of_row.old }
+    requires displaced { displaced < length place_of_row.old }
+    ensures place_of_row { place_of_row.new ≡ set (set place_of_row.old displaced from) incoming place }
+    ensures row_at_place { row_at_place.new ≡ set (set row_at_place.old from displaced) place incoming }
 {
     place_of_row[displaced] = from;
     place_of_row[incoming] = place;
@@ -52,8 +52,8 @@ fn place_all(
 )
     requires fit { Fit store words.old marks.old }
     requires numbers { Numbers store.rows kept order.now }
-    requires own { Own store.rows place_of_row.old }
-    requires own_2 { Own store.rows row_at_place.old }
+    requires places_own { Own store.rows place_of_row.old }
+    requires rows_own { Own store.rows row_at_place.old }
     ensures { take kept (rows_of store words.new marks.new)
         ≡ rows_numbered kept order.now (rows_of store words.old marks.old) }
 {
