@@ -24,10 +24,9 @@ pub enum Filling {
 
 // How many of the missing executors are copies: the product rounded to the nearest whole number, halves up.
 // Twice the product is exact, so what is left to round is a half.
-#[tactic(auto, unfolding(rounds::specs::Copies::to_copy))]
 fn to_copy(missing: usize, ratio: f64) -> usize
-    requires missing_le_most_rows { missing ≤ most_rows }
-    requires t { T (is_copy_ratio ratio) }
+    requires few { missing ≤ most_rows }
+    requires copy_ratio { T (is_copy_ratio ratio) }
     ensures value { result ≡ to_copy missing ratio }
     ensures upper_bound { result ≤ missing }
 {
@@ -38,9 +37,9 @@ fn to_copy(missing: usize, ratio: f64) -> usize
 
 // None are copied where none are kept.
 fn count_copies(rows: usize, kept: usize, ratio: f64) -> usize
-    requires rows_le_most_rows { rows ≤ most_rows }
+    requires few { rows ≤ most_rows }
     requires kept_le_rows { kept ≤ rows }
-    requires t { T (is_copy_ratio ratio) }
+    requires copy_ratio { T (is_copy_ratio ratio) }
     ensures value { result ≡ copies_of rows kept ratio }
     ensures result_bound { kept + result ≤ rows }
     ensures kept_nonzero { 0 < result → 0 < kept }
