@@ -1,12 +1,8 @@
 -- A round's runs, as the code has them: the round ends with what was found, or it goes on to the selection.
 use mathlib.Core.Bool.{Bool}
-use mathlib.Core.List.{List, [], ◌∷◌, map}
-use mathlib.Core.Logic.{inl, inr}
+use mathlib.Core.List.{List, map}
 use mathlib.Core.Path.{◌≡◌, refl, sym, ap, ◌∙◌}
 use Prim.Native.Nat.{ℕ}
-use native.Mathlib.Omega.{arith}
-use denote.Enum.Declared.{tag_of}
-use types.Run.{OneOf}
 use lib.ListN.{length, length-map}
 use Rattle.rows.specs.Rows.{Row}
 use Rattle.machine.specs.Runs.{Finished}
@@ -16,23 +12,15 @@ use Rattle.store.proofs.Rows.{length_rows}
 use Rattle.counting.specs.Counters.{taking}
 use Rattle.answers.specs.declared.finding.Finding.{Finding}
 use Rattle.answers.specs.declared.finding.Finding.TheVariants.{Nothing, Found, Failed, TapeShort, ScoresUnordered}
-use Rattle.answers.specs.contracts.finding.Finding.{the_type}
 use Rattle.options.specs.declared.RaritySimulationOptions.{RaritySimulationOptions}
 use Rattle.rounds.specs.Rounds.{After, ends, ends_or, selected, run_all, row_after, running_flag, still_running, outcome_of, used_after, ran_on}
 use Rattle.rounds.proofs.Running.{run_all_length}
 use Rattle.running.specs.declared.AllRan.{AllRan}
 use Rattle.running.specs.Running.{all_ran}
 
-none : (n : ℕ) → n ≡ 0 → OneOf (1 ∷ 2 ∷ 3 ∷ 4 ∷ []) n → ⊥
-none n z (inl e) = omega (arith, z, e)
-none n z (inr (inl e)) = omega (arith, z, e)
-none n z (inr (inr (inl e))) = omega (arith, z, e)
-none n z (inr (inr (inr e))) = omega (arith, z, e)
-
--- the variants other than the first end a round
-ends_with : (f : Finding) (rows : List Row) (used : ℕ) (next : After) → OneOf (1 ∷ 2 ∷ 3 ∷ 4 ∷ []) (tag_of the_type f)
-    → ends f rows used ≡ ends_or f rows used next
-ends_with Nothing rows used next h = absurd (none _ refl h)
+-- the findings other than none end a round
+ends_with : (f : Finding) (rows : List Row) (used : ℕ) (next : After) → (f ≡ Nothing → ⊥) → ends f rows used ≡ ends_or f rows used next
+ends_with Nothing rows used next h = absurd (h refl)
 ends_with (Found bug i pc) rows used next h = refl
 ends_with (Failed error i pc) rows used next h = refl
 ends_with TapeShort rows used next h = refl
@@ -52,8 +40,7 @@ module _ (o : RaritySimulationOptions) (tape : List ℕ) (used : ℕ) (s : Layou
       ∙ length_rows s.rows s.words s.marks words marks
 
   module _ {all : AllRan} (ran : all ≡ all_ran used runs) {rows : List Row} (after : rows ≡ map row_after runs) where
-    pub ended : OneOf (1 ∷ 2 ∷ 3 ∷ 4 ∷ []) (tag_of the_type all.finding)
-        → ends all.finding rows all.used ≡ (ran_on o tape used (rows_of s words marks)).after
+    pub ended : (all.finding ≡ Nothing → ⊥) → ends all.finding rows all.used ≡ (ran_on o tape used (rows_of s words marks)).after
     unfolding ran_on
     ended h =
         ends_with all.finding rows all.used next h

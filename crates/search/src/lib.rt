@@ -25,6 +25,7 @@ use store::layout::Layout;
 use store::zero::zero_rows;
 
 // Numbers 1 to 5.
+#[tactic(auto, unfolding(checks::specs::Tests::checked_by))]
 fn check_options(options: RaritySimulationOptions, log: u64, words: usize, marks: usize) -> Checked
     ensures { result ≡ checked_by (option_tests options log words marks) }
 {
