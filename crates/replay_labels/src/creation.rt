@@ -23,8 +23,8 @@ fn create(
     words: &mut [u64],
     marks: &mut [u8],
 ) -> Checked
-    requires code_length_bound { (columns.code_length ≤ 512) × (columns.data_length ≤ 512) × (columns.«data» ≤ 1000) }
-    requires words_in_bounds { (sizes.words ≤ length words.old) × (sizes.marks ≤ length marks.old) }
+    requires lengths { (columns.code_length ≤ 512) × (columns.data_length ≤ 512) × (columns.«data» ≤ 1000) }
+    requires lent { (sizes.words ≤ length words.old) × (sizes.marks ≤ length marks.old) }
 {
     let code = bytes_at(numbers, CODE);
     let data = bytes_at(numbers, columns.data);
