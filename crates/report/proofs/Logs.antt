@@ -5,8 +5,6 @@ use mathlib.Core.Logic.{inl, inr}
 use Prim.Native.Nat.{ℕ, ◌+◌, ◌*◌, ◌-◌, ◌≤◌, ◌<◌}
 use native.Mathlib.Nat.{add-sub_cancel_left}
 use native.Mathlib.Omega.{arith}
-use denote.Enum.Declared.{tag_of}
-use types.Run.{OneOf}
 use lib.ListN.{length, take, drop, get_or, length-drop, get_or-eq_default}
 use lib.Seq.{take-take, take_all, take-add, drop_at, drop-drop, get_or-take, get_or-drop, length-take-le}
 use Rattle.rows.specs.Rows.{Row, row, header}
@@ -15,7 +13,6 @@ use Rattle.store.specs.declared.layout.Layout.{Layout}
 use Rattle.store.proofs.Rows.{row_end, row_get, part_length, length_rows}
 use Rattle.answers.specs.declared.finding.Finding.{Finding}
 use Rattle.answers.specs.declared.finding.Finding.TheVariants.{Nothing, Found, Failed, TapeShort, ScoresUnordered}
-use Rattle.answers.specs.contracts.finding.Finding.{the_type}
 use Rattle.search.specs.declared.answer.SearchAnswer.{SearchAnswer}
 use Rattle.search.specs.declared.answer.SearchAnswer.TheVariants as answer
 use Rattle.report.specs.Reports.{log_of, inputs_of, told_inputs}
@@ -96,25 +93,6 @@ pub no_log : (s : Layout) (words marks : List ℕ) (i : ℕ) → s.rows ≤ i �
 no_log s words marks i h =
     let past : length (rows_of s words marks) ≤ i = omega (arith, length_rows s.rows s.words s.marks words marks) in
     ap log_of (get_or-eq_default (rows_of s words marks) (row [] []) past)
-
--- the variants other than the second tell nothing
-found : (n : ℕ) → n ≡ 1 → OneOf (0 ∷ 2 ∷ 3 ∷ 4 ∷ []) n → ⊥
-found n z (inl e) = omega (arith, z, e)
-found n z (inr (inl e)) = omega (arith, z, e)
-found n z (inr (inr (inl e))) = omega (arith, z, e)
-found n z (inr (inr (inr e))) = omega (arith, z, e)
-
-no_bug : (f : Finding) (rows : List Row) → OneOf (0 ∷ 2 ∷ 3 ∷ 4 ∷ []) (tag_of the_type f) → inputs_of f rows ≡ []
-no_bug Nothing rows h = refl
-no_bug (Found bug i pc) rows h = absurd (found _ refl h)
-no_bug (Failed error i pc) rows h = refl
-no_bug TapeShort rows h = refl
-no_bug ScoresUnordered rows h = refl
-
--- an answer that finds no bug tells nothing
-pub none_told : (s : Layout) (words : List ℕ) {a : SearchAnswer} {f : Finding} {used : ℕ} → a ≡ answer.Searched f used
-    → OneOf (0 ∷ 2 ∷ 3 ∷ 4 ∷ []) (tag_of the_type f) → Told s words (told_inputs a) (record { from = 0; to = 0 })
-none_told s words {a} {f} e h = nowhere s words (told_inputs a) (λ marks. rw e (no_bug f (rows_of s words marks) h))
 
 -- so few inputs are told
 pub part_few : {s : Layout} {words : List ℕ} {inputs : List Row → List ℕ} {p : Span} → Told s words inputs p → length (part p words) ≤ bench_limits.log
