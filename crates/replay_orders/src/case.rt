@@ -20,8 +20,8 @@ const JUNK_BYTE: u8 = 0xee;
 
 // Whether the order has the line's answer and leaves what the line says of row and output.
 fn replay_order(numbers: &[u64], columns: Columns) -> bool
-    requires code_length_bound { (columns.code_length ≤ 512) × (columns.data_length ≤ 512) × (columns.«data» ≤ 1000) }
-    requires input_le_end { (columns.input ≤ columns.end) × (columns.end ≤ length numbers.now) }
+    requires lengths { (columns.code_length ≤ 512) × (columns.data_length ≤ 512) × (columns.«data» ≤ 1000) }
+    requires input { (columns.input ≤ columns.end) × (columns.end ≤ length numbers.now) }
 {
     let mut words = [JUNK; WORDS];
     let mut marks = [JUNK_MARK; MARKS];

@@ -29,8 +29,8 @@ fn print_on(
     marks: &mut [u8],
     output: &mut [u8],
 ) -> Printed
-    requires code_length_bound { (columns.code_length ≤ 512) × (columns.data_length ≤ 512) × (columns.«data» ≤ 1000) }
-    requires words_in_bounds { (sizes.words ≤ length words.old) × (sizes.marks ≤ length marks.old) }
+    requires lengths { (columns.code_length ≤ 512) × (columns.data_length ≤ 512) × (columns.«data» ≤ 1000) }
+    requires lent { (sizes.words ≤ length words.old) × (sizes.marks ≤ length marks.old) }
 {
     let code = bytes_at(numbers, CODE);
     let data = bytes_at(numbers, columns.data);
@@ -63,9 +63,9 @@ pub(crate) fn print(
     marks: &mut [u8],
     output: &mut [u8],
 ) -> Printed
-    requires code_length_bound { (columns.code_length ≤ 512) × (columns.data_length ≤ 512) × (columns.«data» ≤ 1000) }
-    requires input_le_end { (columns.input ≤ columns.end) × (columns.end ≤ length numbers.now) }
-    requires words_in_bounds { (sizes.words ≤ length words.old) × (sizes.marks ≤ length marks.old) }
+    requires lengths { (columns.code_length ≤ 512) × (columns.data_length ≤ 512) × (columns.«data» ≤ 1000) }
+    requires input { (columns.input ≤ columns.end) × (columns.end ≤ length numbers.now) }
+    requires lent { (sizes.words ≤ length words.old) × (sizes.marks ≤ length marks.old) }
 {
     let start = columns.input;
     let end = columns.end;
