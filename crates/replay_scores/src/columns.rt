@@ -48,8 +48,8 @@ pub(crate) struct Columns {
 }
 
 pub(crate) fn columns_of(numbers: &[u64]) -> Columns
-    ensures scores_bound { (result.scores ≤ 1536) × (result.counters ≤ 1536) × (result.word_runs ≤ 1536) × (result.mark_runs ≤ 1536) }
-    ensures first_counter_bound { (result.first_counter ≤ 1548) × (result.first_word_run ≤ 6156) × (result.first_mark_run ≤ 10764) }
+    ensures counts { (result.scores ≤ 1536) × (result.counters ≤ 1536) × (result.word_runs ≤ 1536) × (result.mark_runs ≤ 1536) }
+    ensures places { (result.first_counter ≤ 1548) × (result.first_word_run ≤ 6156) × (result.first_mark_run ≤ 10764) }
 {
     let scores = length_at(numbers, SCORES, MOST_NUMBERS);
     let counters = length_at(numbers, COUNTERS, MOST_NUMBERS);
