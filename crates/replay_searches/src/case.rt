@@ -28,8 +28,8 @@ fn states_of(numbers: &[u64]) -> u64 {
 
 // Whether the search has the line's answer and leaves what the line says.
 fn replay_search(numbers: &[u64], columns: Columns) -> bool
-    requires code_length_bound { (columns.code_length ≤ 512) × (columns.data_length ≤ 512) × (columns.«data» ≤ 1000) }
-    requires tape_le_end { (columns.tape ≤ columns.end) × (columns.end ≤ length numbers.now) }
+    requires lengths { (columns.code_length ≤ 512) × (columns.data_length ≤ 512) × (columns.«data» ≤ 1000) }
+    requires tape { (columns.tape ≤ columns.end) × (columns.end ≤ length numbers.now) }
 {
     let mut words = [JUNK; WORDS];
     let mut marks = [JUNK_MARK; MARKS];

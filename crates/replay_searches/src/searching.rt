@@ -51,8 +51,8 @@ pub(crate) fn search_line(
     words: &mut [u64],
     marks: &mut [u8],
 ) -> SearchAnswer
-    requires code_length_bound { (columns.code_length ≤ 512) × (columns.data_length ≤ 512) × (columns.«data» ≤ 1000) }
-    requires tape_le_end { (columns.tape ≤ columns.end) × (columns.end ≤ length numbers.now) }
+    requires lengths { (columns.code_length ≤ 512) × (columns.data_length ≤ 512) × (columns.«data» ≤ 1000) }
+    requires tape { (columns.tape ≤ columns.end) × (columns.end ≤ length numbers.now) }
 {
     let tape = columns.tape;
     let end = columns.end;
