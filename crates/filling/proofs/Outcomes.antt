@@ -1,5 +1,5 @@
 -- The two outcomes of filling, from what the code has counted: too few tape words for the copies, or a full store.
-use Rattle.std.proofs.Common.{◌≡◌, ℕ, ◌+◌, ◌-◌, ◌<◌, ◌≤◌, Bool, false, ltb, List, ◌++◌, map, length, take, drop, replicate, sym, ap, ◌∙◌, append_assoc, arith, length-drop, length-take-le, le-ltb, lt-ltb}
+use Rattle.std.proofs.Common.{◌≡◌, ℕ, ◌+◌, ◌-◌, ◌<◌, ◌≤◌, Bool, false, ltb, List, map, length, take, drop, replicate, sym, ap, ◌∙◌, append_assoc, arith, length-drop, length-take-le, le-ltb, lt-ltb}
 use Rattle.rows.specs.Rows.{Row}
 use Rattle.store.specs.Store.{Fit, rows_of}
 use Rattle.rounds.specs.declared.call.Call.{Call as CallByValue}

@@ -1,7 +1,6 @@
 -- The log of a row in the words of a store.
-use mathlib.Core.Path.{◌≡◌, refl, sym, ap, ◌∙◌}
-use mathlib.Core.List.{List, [], ◌∷◌}
-use mathlib.Core.Logic.{inl, inr}
+use mathlib.Core.Path.{◌≡◌, sym, ap, ◌∙◌}
+use mathlib.Core.List.{List, []}
 use Prim.Native.Nat.{ℕ, ◌+◌, ◌*◌, ◌-◌, ◌≤◌, ◌<◌}
 use native.Mathlib.Nat.{add-sub_cancel_left}
 use native.Mathlib.Omega.{arith}
@@ -11,11 +10,7 @@ use Rattle.rows.specs.Rows.{Row, row, header}
 use Rattle.store.specs.Store.{rows_of}
 use Rattle.store.specs.declared.layout.Layout.{Layout}
 use Rattle.store.proofs.Rows.{row_end, row_get, part_length, length_rows}
-use Rattle.answers.specs.declared.finding.Finding.{Finding}
-use Rattle.answers.specs.declared.finding.Finding.TheVariants.{Nothing, Found, Failed, TapeShort, ScoresUnordered}
-use Rattle.search.specs.declared.answer.SearchAnswer.{SearchAnswer}
-use Rattle.search.specs.declared.answer.SearchAnswer.TheVariants as answer
-use Rattle.report.specs.Reports.{log_of, inputs_of, told_inputs}
+use Rattle.report.specs.Reports.{log_of}
 use Rattle.sheet.specs.Sheets.{bench_limits}
 use Rattle.report.specs.Printing.{Lent, Told, log_at, part}
 use Rattle.report.specs.declared.inputs.Span.{Span}

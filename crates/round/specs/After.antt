@@ -1,7 +1,6 @@
 -- A stepping stone between contracts: a round as the code makes it, filling and its 8 included, and what the code's answer says of the store.
 use Rattle.std.specs.Prelude.{cond, List, ℕ}
 use Rattle.answers.specs.declared.finding.Finding.TheVariants.{TapeShort}
-use Rattle.rows.specs.Rows.{Row}
 use Rattle.store.specs.Store.{rows_of}
 use Rattle.store.specs.declared.layout.Layout.{Layout}
 use Rattle.rounds.specs.Calls.{Call}

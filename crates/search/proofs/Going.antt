@@ -11,7 +11,7 @@ use Rattle.rounds.specs.Calls.{Call}
 use Rattle.rounds.specs.Demand.{All, nil}
 use Rattle.rounds.specs.Handed.{Holding, start_of}
 use Rattle.rounds.specs.declared.call.Start.{Start as StartByValue}
-use Rattle.rounds.specs.Rounds.{Start, beginning, stored, tape_short, goes_on, ends, round_of, Searched, searched_after, search_from}
+use Rattle.rounds.specs.Rounds.{Start, beginning, stored, tape_short, goes_on, ends, round_of, searched_after, search_from}
 use Rattle.answers.specs.declared.finding.Finding.{Finding}
 use Rattle.answers.specs.declared.finding.Finding.TheVariants.{Nothing, TapeShort}
 use Rattle.running.specs.Running.{LimitsAllow}

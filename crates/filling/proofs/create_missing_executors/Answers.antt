@@ -1,5 +1,5 @@
 use Rattle.store.proofs.Rows.{fit_same}
-use Rattle.filling.proofs.Outcomes.{Planned, short_of_tape, answered, copied_holds, all_filled}
+use Rattle.filling.proofs.Outcomes.{Planned, short_of_tape, answered, all_filled}
 use Rattle.filling.proofs.create_missing_executors.Goals as goal
 
 pub returns-then-words_left-count : goal.returns-then-words_left-count

@@ -1,6 +1,6 @@
-use Rattle.std.proofs.Common.{◌∙◌, arith}
+use Rattle.std.proofs.Common.{◌∙◌}
 use Rattle.loader.specs.Loading.{image}
-use Rattle.search.proofs.Accepted.{Allowed, checked_as, allowed, allowed_demand}
+use Rattle.search.proofs.Accepted.{checked_as, allowed, allowed_demand}
 use Rattle.search.proofs.Leaving.{left_refused, lent_fit, callable, zeroed, left_accepted}
 use Rattle.search.proofs.search_for_bugs.Goals as goal
 
