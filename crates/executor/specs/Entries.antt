@@ -9,7 +9,6 @@ use Rattle.answers.specs.declared.outcome.Progress.TheVariants.{Running, Ended}
 use Rattle.rows.specs.Rows.{Row, row}
 use Rattle.loader.specs.Loading.{Program, new_executor}
 use Rattle.machine.specs.Runs.{run_of}
-use Rattle.machine.specs.declared.run.Ran.{Ran}
 use Rattle.checks.specs.Refusals.{refusal_number, is_memory_size, is_log_size, are_lengths}
 use Rattle.checks.specs.Segments.{segment_tests}
 use Rattle.checks.specs.Tests.{Test, test, checked_by}

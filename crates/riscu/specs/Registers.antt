@@ -1,5 +1,5 @@
 -- A stepping stone between contracts: every register that an instruction names is one of the 32, as the layers above ask of an instruction.
-use Rattle.std.specs.Prelude.{ℕ, ◌<◌}
+use Rattle.std.specs.Prelude.{◌<◌}
 use Rattle.riscu.specs.declared.instruction.RType.{RType}
 use Rattle.riscu.specs.declared.instruction.IType.{IType}
 use Rattle.riscu.specs.declared.instruction.SType.{SType}

@@ -1,5 +1,4 @@
-use Rattle.std.proofs.Common.{◌∙◌, rules, arith}
-use Rattle.machine.specs.HandedOut.{HandedOut}
+use Rattle.std.proofs.Common.{rules, arith}
 use Rattle.runner.proofs.Turns.{answered, begins, limited, stopped, filled, limit_kept, fewer_left, turned}
 use Rattle.runner.proofs.serve.Goals as goal
 

@@ -1,4 +1,4 @@
-use Rattle.std.proofs.Common.{rules, arith}
+use Rattle.std.proofs.Common.{rules}
 use Rattle.rows.specs.Rows.{row}
 use Rattle.machine.proofs.Bytes.{bytes_on}
 use Rattle.machine.proofs.write.write_to.Goals as goal
