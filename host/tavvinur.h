@@ -1,5 +1,5 @@
 /* Tavvinur for C: the rarity search over RISC-U programs, a label program at the counter, and one executor by itself. Link
- * target/staticlib/libtavvinur.a.
+ * crates/tavvinur/out/libtavvinur.a.
  *
  * Every function is proved to equal its definition (crates/tavvinur/specs, docs/HOSTS.md), on refused calls too: a refused
  * call changes nothing of what is lent. Numbers and lengths may be any: the functions check them. The caller answers only for this:

@@ -1,7 +1,7 @@
-//! Says where `rt staticlib tavvinur` leaves the archive.
+//! Says where `rt lib` in crates/tavvinur leaves the archive.
 
 fn main() {
-    let folder = concat!(env!("CARGO_MANIFEST_DIR"), "/../../target/staticlib");
+    let folder = concat!(env!("CARGO_MANIFEST_DIR"), "/../../crates/tavvinur/out");
     println!("cargo:rustc-link-search=native={}", folder);
     println!("cargo:rustc-link-lib=static=tavvinur");
     println!("cargo:rerun-if-changed={}/libtavvinur.a", folder);
