@@ -16,7 +16,7 @@ pub(crate) fn replay(rt: &impl Print, file: &File) -> io::Result<Tally> {
             return Ok(tally);
         }
         let count = read.count;
-        tally = tally.counted(rt, judge(&numbers[..count]), read.wrong)?;
+        tally.counted(rt, judge(&numbers[..count]), read.wrong)?;
         at = read.next;
     }
     Ok(tally)

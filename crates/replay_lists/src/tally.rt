@@ -1,5 +1,5 @@
 // How many cases agree, and how many lines that are wrong on purpose disagree.
-ghost use Rattle.std.specs.Prelude.{◌≡◌, false, IfOk};
+ghost use Rattle.std.specs.Prelude.{◌≡◌, false};
 ghost use Rattle.replay_lists.specs.Tallies.{plus, one_if, nothing, with_case, with_wrong, with_line};
 
 use std::io;
@@ -132,13 +132,12 @@ impl Tally {
     }
 
     // Counts a line, and tells the number of a case that disagrees or of a line that is wrong on purpose and agrees. What is
-    // told no contract can say.
-    pub fn counted(self, rt: &impl Print, judged: Judged, wrong: bool) -> io::Result<Tally>
-        ensures { IfOk result (λ tally. tally ≡ with_line self judged wrong) }
+    // told no contract can say; where telling fails the line is counted all the same.
+    pub fn counted(&mut self, rt: &impl Print, judged: Judged, wrong: bool) -> io::Result<()>
+        ensures { self.new ≡ with_line self.old judged wrong }
     {
-        let tally = self.with(judged, wrong);
-        tally.tell(rt, judged.agrees, wrong)?;
-        Ok(tally)
+        *self = self.with(judged, wrong);
+        self.tell(rt, judged.agrees, wrong)
     }
 
     // As `label programs: 3 of 3 cases agree, 7 runs; 2 of 2 lines that are wrong on purpose disagree`. No contract can say
