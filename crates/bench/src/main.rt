@@ -1,31 +1,33 @@
 // The bench program: a sheet on standard input, the lines of its answer on standard output.
 #![tactic(auto)]
 
-ghost use Rattle.std.specs.Prelude.{◌≤◌, length, IfOk};
+ghost use Rattle.std.specs.Prelude.{◌≤◌, length};
 
 use report::{MOST_PRINTED, SHEET_BUFFER, report};
-use std::io;
 use std::io::Read;
 
-// Reads until the buffer is full or the input ends, and says how many bytes came.
-fn read_full(input: &mut impl Read, buffer: &mut [u8]) -> io::Result<usize>
-    ensures { IfOk result (λ n. n ≤ length buffer.new) }
+// Reads until the buffer is full or the input ends, and says how many bytes came. A failed read is taken for the end of the input.
+fn read_full(input: &mut impl Read, buffer: &mut [u8]) -> usize
+    ensures { result ≤ length buffer.new }
 {
     let mut done = 0;
     while done < buffer.len() {
-        let n = input.read(&mut buffer[done..])?;
+        let Ok(n) = input.read(&mut buffer[done..]) else {
+            break;
+        };
         if n == 0 {
             break;
         }
         done += n;
     }
-    Ok(done)
+    done
 }
 
-fn main(rt: HostRuntime) -> io::Result<()> {
+fn main(rt: HostRuntime) {
     let mut sheet = [0u8; SHEET_BUFFER];
-    let n = read_full(&mut rt.stdin(), &mut sheet)?;
+    let n = read_full(&mut rt.stdin(), &mut sheet);
     let mut out = [0u8; MOST_PRINTED];
     let m = report(&sheet, n, &mut out);
-    rt.write_all(&out[..m])
+    // Whoever reads the answer sees by its last line whether it is whole.
+    let _ = rt.write_all(&out[..m]);
 }
