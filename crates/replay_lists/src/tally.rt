@@ -141,7 +141,7 @@ impl Tally {
     }
 
     // As `label programs: 3 of 3 cases agree, 7 runs; 2 of 2 lines that are wrong on purpose disagree`. No contract can say
-    // what is printed; `rt check` holds it to the program's file `stdout`.
+    // what is printed; `rt ci` holds it to the program's file `stdout`.
     pub fn print(self, rt: &impl Print, name: &[u8], parts: &[u8]) -> io::Result<()> {
         print(rt, name)?;
         print(rt, b": ")?;
