@@ -1,9 +1,8 @@
 // A list in its file, read line by line.
-ghost use Rattle.std.specs.Prelude.{◌≡◌, ◌<◌, ◌≤◌, length, IfOk};
+ghost use Rattle.std.specs.Prelude.{◌≡◌, ◌<◌, ◌≤◌, length};
 
 use crate::line::Line;
 use std::fs::File;
-use std::io;
 use std::os::unix::fs::FileExt;
 
 const PART_BYTES: usize = 4096;
@@ -42,14 +41,16 @@ fn with_bytes(before: Line, numbers: &mut [u64], text: &[u8]) -> Part
     Part { line, taken: i }
 }
 
-// The bytes of the file from a place on, as many as are there or fit.
-fn with_part(file: &File, at: usize, before: Line, numbers: &mut [u64]) -> io::Result<Part>
+// The bytes of the file from a place on, as many as are there or fit. A failed read is taken for the end of the file.
+fn with_part(file: &File, at: usize, before: Line, numbers: &mut [u64]) -> Part
     requires { at ≤ 0x1_0000_0000 }
-    ensures { IfOk result (λ part. part.taken ≤ 4096) }
+    ensures { result.taken ≤ 4096 }
 {
     let mut text = [0; PART_BYTES];
-    let bytes = file.read_at(&mut text, at as u64)?;
-    Ok(with_bytes(before, numbers, &text[..bytes]))
+    let Ok(bytes) = file.read_at(&mut text, at as u64) else {
+        return with_bytes(before, numbers, &text[..0]);
+    };
+    with_bytes(before, numbers, &text[..bytes])
 }
 
 fn finished(line: Line, most: usize, next: usize) -> Read
@@ -64,22 +65,22 @@ fn finished(line: Line, most: usize, next: usize) -> Read
 
 // The numbers of the line from a place on. At the end of the file nothing is read, and the next line starts at that place too. What a
 // file holds no contract can say.
-pub fn read_line(file: &File, from: usize, numbers: &mut [u64]) -> io::Result<Read>
+pub fn read_line(file: &File, from: usize, numbers: &mut [u64]) -> Read
     requires { from ≤ 0x1_0000_0000 }
-    ensures { IfOk result (λ read. (from ≤ read.next) × (read.count ≤ length numbers.old)) }
+    ensures { (from ≤ result.next) × (result.count ≤ length numbers.old) }
 {
     let mut line = Line::new();
     let mut at = from;
     while at < MOST_BYTES {
-        let part = with_part(file, at, line, numbers)?;
+        let part = with_part(file, at, line, numbers);
         line = part.line;
         if part.taken == 0 {
-            return Ok(finished(line, numbers.len(), at));
+            return finished(line, numbers.len(), at);
         }
         at += part.taken;
         if line.ended {
-            return Ok(finished(line, numbers.len(), at));
+            return finished(line, numbers.len(), at);
         }
     }
-    Ok(finished(line, numbers.len(), at))
+    finished(line, numbers.len(), at)
 }

@@ -2,8 +2,6 @@
 ghost use Rattle.std.specs.Prelude.{◌≡◌, false};
 ghost use Rattle.replay_lists.specs.Tallies.{plus, one_if, nothing, with_case, with_wrong, with_line};
 
-use std::io;
-
 // What came of a line.
 #[derive(Clone, Copy)]
 pub struct Judged {
@@ -48,26 +46,26 @@ fn one_if(condition: bool) -> u64
     if condition { 1 } else { 0 }
 }
 
-fn print(rt: &impl Print, text: &[u8]) -> io::Result<()> {
-    rt.write_all(text)
+fn print(rt: &impl Print, text: &[u8]) {
+    let _ = rt.write_all(text);
 }
 
-fn print_number(rt: &impl Print, n: u64) -> io::Result<()> {
-    rt.print(n)
+fn print_number(rt: &impl Print, n: u64) {
+    let _ = rt.print(n);
 }
 
 // As `3 of 4`.
-fn print_of(rt: &impl Print, some: u64, all: u64) -> io::Result<()> {
-    print_number(rt, some)?;
-    print(rt, b" of ")?;
-    print_number(rt, all)
+fn print_of(rt: &impl Print, some: u64, all: u64) {
+    print_number(rt, some);
+    print(rt, b" of ");
+    print_number(rt, all);
 }
 
 // Tells the number of a line that is not as it must be.
-fn print_line(rt: &impl Print, number: u64, text: &[u8]) -> io::Result<()> {
-    print(rt, b"line ")?;
-    print_number(rt, number)?;
-    print(rt, text)
+fn print_line(rt: &impl Print, number: u64, text: &[u8]) {
+    print(rt, b"line ");
+    print_number(rt, number);
+    print(rt, text);
 }
 
 impl Tally {
@@ -120,38 +118,38 @@ impl Tally {
     }
 
     // What is told of the line that was counted last.
-    fn tell(self, rt: &impl Print, agrees: bool, wrong: bool) -> io::Result<()> {
+    fn tell(self, rt: &impl Print, agrees: bool, wrong: bool) {
         let number = sum(self.cases, self.wrong);
         if agrees && wrong {
-            print_line(rt, number, b" is wrong on purpose, and agrees\n")?;
+            print_line(rt, number, b" is wrong on purpose, and agrees\n");
         }
         if !agrees && !wrong {
-            print_line(rt, number, b" disagrees\n")?;
+            print_line(rt, number, b" disagrees\n");
         }
-        Ok(())
     }
 
     // Counts a line, and tells the number of a case that disagrees or of a line that is wrong on purpose and agrees. What is
-    // told no contract can say; where telling fails the line is counted all the same.
-    pub fn counted(&mut self, rt: &impl Print, judged: Judged, wrong: bool) -> io::Result<()>
-        ensures { self.new ≡ with_line self.old judged wrong }
+    // told no contract can say.
+    pub fn counted(self, rt: &impl Print, judged: Judged, wrong: bool) -> Tally
+        ensures { result ≡ with_line self judged wrong }
     {
-        *self = self.with(judged, wrong);
-        self.tell(rt, judged.agrees, wrong)
+        let tally = self.with(judged, wrong);
+        tally.tell(rt, judged.agrees, wrong);
+        tally
     }
 
     // As `label programs: 3 of 3 cases agree, 7 runs; 2 of 2 lines that are wrong on purpose disagree`. No contract can say
     // what is printed; `rt ci` holds it to the program's file `stdout`.
-    pub fn print(self, rt: &impl Print, name: &[u8], parts: &[u8]) -> io::Result<()> {
-        print(rt, name)?;
-        print(rt, b": ")?;
-        print_of(rt, self.agree, self.cases)?;
-        print(rt, b" cases agree, ")?;
-        print_number(rt, self.parts)?;
-        print(rt, b" ")?;
-        print(rt, parts)?;
-        print(rt, b"; ")?;
-        print_of(rt, self.disagree, self.wrong)?;
-        print(rt, b" lines that are wrong on purpose disagree\n")
+    pub fn print(self, rt: &impl Print, name: &[u8], parts: &[u8]) {
+        print(rt, name);
+        print(rt, b": ");
+        print_of(rt, self.agree, self.cases);
+        print(rt, b" cases agree, ");
+        print_number(rt, self.parts);
+        print(rt, b" ");
+        print(rt, parts);
+        print(rt, b"; ");
+        print_of(rt, self.disagree, self.wrong);
+        print(rt, b" lines that are wrong on purpose disagree\n");
     }
 }

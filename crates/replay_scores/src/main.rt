@@ -10,11 +10,11 @@ mod list;
 mod runs;
 
 use std::fs::File;
-use std::io;
 
-fn main(rt: HostRuntime) -> io::Result<()> {
+fn main(rt: HostRuntime) {
     let Ok(file) = File::open(&rt, "cases") else {
-        return rt.write_all(b"cases: cannot be opened\n");
+        let _ = rt.write_all(b"cases: cannot be opened\n");
+        return;
     };
-    list::replay(&rt, &file)?.print(&rt, b"scoring", b"scores")
+    list::replay(&rt, &file).print(&rt, b"scoring", b"scores");
 }

@@ -1,10 +1,9 @@
 // A list in its file, read in parts and judged line by line.
-ghost use Rattle.std.specs.Prelude.{◌≤◌, length, IfOk};
+ghost use Rattle.std.specs.Prelude.{◌≤◌, length};
 
 use crate::tally::{Tally, Verdict};
 use crate::{decodings, results};
 use std::fs::File;
-use std::io;
 use std::os::unix::fs::FileExt;
 
 const PART_BYTES: usize = 4096;
@@ -60,15 +59,15 @@ fn mark_length(line: &[u8]) -> usize
     if line[0] == WRONG { 1 } else { 0 }
 }
 
-fn counted(rt: &impl Print, line: &[u8], list: List, before: Tally) -> io::Result<Tally> {
+fn counted(rt: &impl Print, line: &[u8], list: List, before: Tally) -> Tally {
     let start = mark_length(line);
     before.with(rt, judge(&line[start..], list), start != 0)
 }
 
 // Every line counts, whatever is in it: one that is no case of its list disagrees. A line that the text cuts off is left for
 // the next part, which starts with it; one that is cut off there too is the file's last, or longer than any line of a list.
-fn replay_lines(rt: &impl Print, text: &[u8], list: List, before: Tally) -> io::Result<Progress>
-    ensures { IfOk result (λ progress. progress.used ≤ length text.now) }
+fn replay_lines(rt: &impl Print, text: &[u8], list: List, before: Tally) -> Progress
+    ensures { result.used ≤ length text.now }
 {
     let mut tally = before;
     let mut start = 0;
@@ -76,44 +75,41 @@ fn replay_lines(rt: &impl Print, text: &[u8], list: List, before: Tally) -> io::
         let end = line_end(text, start);
         if end == text.len() {
             if start == 0 {
-                return Ok(Progress {
-                    tally: counted(rt, text, list, tally)?,
+                return Progress {
+                    tally: counted(rt, text, list, tally),
                     used: end,
-                });
+                };
             }
-            return Ok(Progress { tally, used: start });
+            return Progress { tally, used: start };
         }
-        tally = counted(rt, &text[start..end], list, tally)?;
+        tally = counted(rt, &text[start..end], list, tally);
         start = end + 1;
     }
-    Ok(Progress { tally, used: start })
+    Progress { tally, used: start }
 }
 
-fn replay_part(
-    rt: &impl Print,
-    file: &File,
-    at: usize,
-    list: List,
-    before: Tally,
-) -> io::Result<Progress>
+// A failed read is taken for the end of the file.
+fn replay_part(rt: &impl Print, file: &File, at: usize, list: List, before: Tally) -> Progress
     requires { at ≤ 0x1_0000_0000 }
-    ensures { IfOk result (λ progress. progress.used ≤ 4096) }
+    ensures { result.used ≤ 4096 }
 {
     let mut text = [0; PART_BYTES];
-    let n = file.read_at(&mut text, at as u64)?;
+    let Ok(n) = file.read_at(&mut text, at as u64) else {
+        return replay_lines(rt, &text[..0], list, before);
+    };
     replay_lines(rt, &text[..n], list, before)
 }
 
-pub(crate) fn replay(rt: &impl Print, file: &File, list: List) -> io::Result<Tally> {
+pub(crate) fn replay(rt: &impl Print, file: &File, list: List) -> Tally {
     let mut tally = Tally::new();
     let mut at = 0;
     while at < MOST_BYTES {
-        let progress = replay_part(rt, file, at, list, tally)?;
+        let progress = replay_part(rt, file, at, list, tally);
         tally = progress.tally;
         if progress.used == 0 {
-            return Ok(tally);
+            return tally;
         }
         at += progress.used;
     }
-    Ok(tally)
+    tally
 }

@@ -11,51 +11,50 @@ mod tally;
 
 use list::List;
 use std::fs::File;
-use std::io;
 use std::rt::Files;
 use tally::{Tally, print, print_number, print_of};
 
 // Replays the list of this name. One that is missing is told, and has no lines.
-fn replay(rt: &(impl Files<File = File> + Print), name: &str, list: List) -> io::Result<Tally> {
+fn replay(rt: &(impl Files<File = File> + Print), name: &str, list: List) -> Tally {
     let Ok(file) = File::open(rt, name) else {
-        print(rt, name.as_bytes())?;
-        print(rt, b": cannot be opened\n")?;
-        return Ok(Tally::new());
+        print(rt, name.as_bytes());
+        print(rt, b": cannot be opened\n");
+        return Tally::new();
     };
     list::replay(rt, &file, list)
 }
 
-fn print_agreeing(rt: &impl Print, name: &[u8], t: Tally) -> io::Result<()> {
-    print(rt, name)?;
-    print(rt, b": ")?;
-    print_of(rt, t.agree, t.lines)?;
-    print(rt, b" agree")
+fn print_agreeing(rt: &impl Print, name: &[u8], t: Tally) {
+    print(rt, name);
+    print(rt, b": ");
+    print_of(rt, t.agree, t.lines);
+    print(rt, b" agree");
 }
 
-fn print_departures(rt: &impl Print, t: Tally) -> io::Result<()> {
-    print(rt, b", ")?;
-    print_number(rt, t.departures)?;
-    print(rt, b" of them departures from the manual: ")?;
-    print_number(rt, t.lui)?;
-    print(rt, b" lui, ")?;
-    print_number(rt, t.jalr)?;
-    print(rt, b" jalr, ")?;
-    print_number(rt, t.zero_divisors)?;
-    print(rt, b" zero divisors")
+fn print_departures(rt: &impl Print, t: Tally) {
+    print(rt, b", ");
+    print_number(rt, t.departures);
+    print(rt, b" of them departures from the manual: ");
+    print_number(rt, t.lui);
+    print(rt, b" lui, ");
+    print_number(rt, t.jalr);
+    print(rt, b" jalr, ");
+    print_number(rt, t.zero_divisors);
+    print(rt, b" zero divisors");
 }
 
-fn print_wrong(rt: &impl Print, t: Tally) -> io::Result<()> {
-    print(rt, b"; ")?;
-    print_of(rt, t.disagree, t.wrong)?;
-    print(rt, b" lines that are wrong on purpose disagree\n")
+fn print_wrong(rt: &impl Print, t: Tally) {
+    print(rt, b"; ");
+    print_of(rt, t.disagree, t.wrong);
+    print(rt, b" lines that are wrong on purpose disagree\n");
 }
 
-fn main(rt: HostRuntime) -> io::Result<()> {
-    let decodings = replay(&rt, "decodings", List::Decodings)?;
-    print_agreeing(&rt, b"decodings", decodings)?;
-    print_wrong(&rt, decodings)?;
-    let results = replay(&rt, "results", List::Results)?;
-    print_agreeing(&rt, b"results", results)?;
-    print_departures(&rt, results)?;
-    print_wrong(&rt, results)
+fn main(rt: HostRuntime) {
+    let decodings = replay(&rt, "decodings", List::Decodings);
+    print_agreeing(&rt, b"decodings", decodings);
+    print_wrong(&rt, decodings);
+    let results = replay(&rt, "results", List::Results);
+    print_agreeing(&rt, b"results", results);
+    print_departures(&rt, results);
+    print_wrong(&rt, results);
 }

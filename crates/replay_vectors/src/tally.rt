@@ -1,6 +1,4 @@
 // How many lines of a list agree, and how many lines that are wrong on purpose disagree.
-use std::io;
-
 // Where document 01 departs from the manual, by the mark of a line.
 #[derive(Clone, Copy)]
 pub(crate) enum Departure {
@@ -35,19 +33,19 @@ fn one_more(n: u64) -> u64 {
     if n < u64::MAX { n + 1 } else { n }
 }
 
-pub(crate) fn print(rt: &impl Print, text: &[u8]) -> io::Result<()> {
-    rt.write_all(text)
+pub(crate) fn print(rt: &impl Print, text: &[u8]) {
+    let _ = rt.write_all(text);
 }
 
-pub(crate) fn print_number(rt: &impl Print, n: u64) -> io::Result<()> {
-    rt.print(n)
+pub(crate) fn print_number(rt: &impl Print, n: u64) {
+    let _ = rt.print(n);
 }
 
 // As `3 of 4`.
-pub(crate) fn print_of(rt: &impl Print, some: u64, all: u64) -> io::Result<()> {
-    print_number(rt, some)?;
-    print(rt, b" of ")?;
-    print_number(rt, all)
+pub(crate) fn print_of(rt: &impl Print, some: u64, all: u64) {
+    print_number(rt, some);
+    print(rt, b" of ");
+    print_number(rt, all);
 }
 
 impl Tally {
@@ -75,45 +73,45 @@ impl Tally {
     }
 
     // Tells the number of the line that was counted last, which is not as it must be.
-    fn tell(self, rt: &impl Print, text: &[u8]) -> io::Result<()> {
-        print(rt, b"line ")?;
-        print_number(rt, std::num::wrapping_add_u64(self.lines, self.wrong))?;
-        print(rt, text)
+    fn tell(self, rt: &impl Print, text: &[u8]) {
+        print(rt, b"line ");
+        print_number(rt, std::num::wrapping_add_u64(self.lines, self.wrong));
+        print(rt, text);
     }
 
-    fn with_case(mut self, rt: &impl Print, verdict: Verdict) -> io::Result<Tally> {
+    fn with_case(mut self, rt: &impl Print, verdict: Verdict) -> Tally {
         self.lines = one_more(self.lines);
         match verdict {
             Verdict::Disagrees => {
-                self.tell(rt, b" disagrees\n")?;
-                Ok(self)
+                self.tell(rt, b" disagrees\n");
+                self
             }
             Verdict::Agrees => {
                 self.agree = one_more(self.agree);
-                Ok(self)
+                self
             }
             Verdict::Departs(departure) => {
                 self.agree = one_more(self.agree);
-                Ok(self.with_departure(departure))
+                self.with_departure(departure)
             }
         }
     }
 
-    fn with_wrong(mut self, rt: &impl Print, verdict: Verdict) -> io::Result<Tally> {
+    fn with_wrong(mut self, rt: &impl Print, verdict: Verdict) -> Tally {
         self.wrong = one_more(self.wrong);
         match verdict {
             Verdict::Disagrees => {
                 self.disagree = one_more(self.disagree);
-                Ok(self)
+                self
             }
             _ => {
-                self.tell(rt, b" is wrong on purpose, and agrees\n")?;
-                Ok(self)
+                self.tell(rt, b" is wrong on purpose, and agrees\n");
+                self
             }
         }
     }
 
-    pub(crate) fn with(self, rt: &impl Print, verdict: Verdict, wrong: bool) -> io::Result<Tally> {
+    pub(crate) fn with(self, rt: &impl Print, verdict: Verdict, wrong: bool) -> Tally {
         if wrong {
             self.with_wrong(rt, verdict)
         } else {
