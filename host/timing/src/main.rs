@@ -1,6 +1,6 @@
 //! Times libtavvinur.a against the Rust, on the same inputs. `host/timing/run` builds and runs it.
 //!
-//! The Rust's text is the oracle's, by links; only the hooks (`engine/rarity_simulation/view.rs`) are empty here, since the original
+//! The Rust's text is the oracle's, copied by `run`; only the hooks (`engine/rarity_simulation/view.rs`) are empty here, since the original
 //! has none. What is lent to Tavvinur is touched before a clock starts; the Rust allocates its states while the clock runs, since its search
 //! does. Times are processor time; of searches and phases the best of several counts, of runs the median.
 
