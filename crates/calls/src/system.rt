@@ -26,7 +26,7 @@ const STDOUT: u64 = 1;
 fn execute_brk(words: &mut [u64], marks: &mut [u8], wanted: Value) -> Progress
     requires { Shape words.old marks.old }
     ensures value { result ≡ brk_progress wanted }
-    ensures marks_after { row words.new marks.new ≡ brk_of wanted (row words.old marks.old) }
+    ensures row_after { row words.new marks.new ≡ brk_of wanted (row words.old marks.old) }
 {
     let Value::Concrete(address) = wanted else {
         return Progress::Ended(unsupported(NotSupportedReason::BrkUninitializedAddress));

@@ -25,7 +25,7 @@ fn apply(words: &mut [u64], marks: &mut [u8], effect: Effect) -> Next
     requires shape { Shape words.old marks.old }
     requires in_reach { InReach (memory_in marks.old) effect }
     ensures value { result ≡ next_of effect }
-    ensures marks_after { row words.new marks.new ≡ applied effect (row words.old marks.old) }
+    ensures row_after { row words.new marks.new ≡ applied effect (row words.old marks.old) }
 {
     match effect {
         Effect::Assign { rd, value, next_pc } => {
@@ -63,7 +63,7 @@ pub fn execute(words: &mut [u64], marks: &mut [u8], instruction: Instruction) ->
     requires shape { Shape words.old marks.old }
     requires registers { Registers instruction }
     ensures value { result ≡ next_of (effect_in instruction (row words.old marks.old)) }
-    ensures marks_after { row words.new marks.new
+    ensures row_after { row words.new marks.new
         ≡ applied (effect_in instruction (row words.old marks.old)) (row words.old marks.old) }
 {
     let pc = words[PC];

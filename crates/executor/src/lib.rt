@@ -62,7 +62,7 @@ pub fn new_executor(
 ) -> Checked
     ensures value { result ≡ creation_checked memory log (image code_address code.now data_address «data».now)
         (row words.old marks.old) }
-    ensures marks_after { row words.new marks.new
+    ensures row_after { row words.new marks.new
         ≡ created_row result (image code_address code.now data_address «data».now) (row words.old marks.old) }
 {
     let sizes = check_sizes(words, marks, memory, log);

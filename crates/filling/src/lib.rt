@@ -41,7 +41,7 @@ fn count_copies(rows: usize, kept: usize, ratio: f64) -> usize
     requires kept_le_rows { kept ≤ rows }
     requires copy_ratio { T (is_copy_ratio ratio) }
     ensures value { result ≡ copies_of rows kept ratio }
-    ensures result_bound { kept + result ≤ rows }
+    ensures within { kept + result ≤ rows }
     ensures kept_nonzero { 0 < result → 0 < kept }
 {
     if kept == 0 {

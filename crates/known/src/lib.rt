@@ -50,7 +50,7 @@ fn with_kind(kind: u64, a: usize, b: usize, c: u64) -> Fields
 
 #[tactic(auto, unfolding(crate::specs::Table::instruction_of))]
 fn fields_of(instruction: Instruction) -> Fields
-    ensures c_value { instruction_of result.kind result.a result.b result.c ≡ instruction }
+    ensures same_instruction { instruction_of result.kind result.a result.b result.c ≡ instruction }
     ensures kind_bound { result.kind < 14 }
 {
     match instruction {

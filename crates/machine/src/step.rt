@@ -79,7 +79,7 @@ pub(crate) fn fetch_next(words: &mut [u64], marks: &[u8]) -> Fetched
     requires shape { Shape words.old marks.now }
     requires marks_bound { depth_of (row words.old marks.now) + 1 < 2 ^ 64 }
     ensures value { result ≡ fetched (deeper (row words.old marks.now)) }
-    ensures marks_after { row words.new marks.now ≡ deeper (row words.old marks.now) }
+    ensures row_after { row words.new marks.now ≡ deeper (row words.old marks.now) }
 {
     words[DEPTH] = words[DEPTH] + 1;
     fetch(words, marks)

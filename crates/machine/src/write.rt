@@ -33,7 +33,7 @@ pub fn write_to(words: &mut [u64], marks: &mut [u8], buffer: u64, output: &mut [
     requires shape { Shape words.old marks.old }
     requires output_bound { buffer + length output.old ≤ 8 * memory_in marks.old }
     ensures output_after { output.new ≡ bytes_from (length output.old) buffer (row words.old marks.old) }
-    ensures marks_after { row words.new marks.new
+    ensures row_after { row words.new marks.new
         ≡ completed (length output.old) (row words.old marks.old) }
 {
     let mut k = 0;

@@ -58,7 +58,7 @@ fn print(
     requires shape { Shape words.old marks.old }
     requires size_bound { buffer + size ≤ 8 * memory_in marks.old }
     requires size_in_bounds { at + size ≤ length output.old }
-    ensures marks_after { row words.new marks.new ≡ completed size (row words.old marks.old) }
+    ensures row_after { row words.new marks.new ≡ completed size (row words.old marks.old) }
     ensures wrote { Wrote output.old at (bytes_from size buffer (row words.old marks.old)) result output.new }
 {
     let end = at + size;

@@ -99,7 +99,7 @@ fn run_row(
     requires r_lt_rows { r < store.rows }
     requires step_bound { limit_of (nth_row (rows_of store words.old marks.old) r) + step < 2 ^ 64 }
     ensures value { result ≡ (row_run step tape.now used r (rows_of store words.old marks.old)).ran }
-    ensures marks_after { rows_of store words.new marks.new
+    ensures rows_after { rows_of store words.new marks.new
         ≡ with_row_run step tape.now used r (rows_of store words.old marks.old) }
     ensures running_after { running.new ≡ set running.old r (is_running result.progress) }
 {
@@ -131,7 +131,7 @@ pub fn run_all(
     requires running_len { length running.old ≡ store.rows }
     requires limits_allow { LimitsAllow step (rows_of store words.old marks.old) }
     ensures value { result ≡ all_ran used (run_all step tape.now used (rows_of store words.old marks.old)) }
-    ensures marks_after { rows_of store words.new marks.new
+    ensures rows_after { rows_of store words.new marks.new
         ≡ map row_after (run_all step tape.now used (rows_of store words.old marks.old)) }
     ensures running_after { running.new ≡ map running_flag (run_all step tape.now used (rows_of store words.old marks.old)) }
 {

@@ -91,7 +91,7 @@ pub extern "C" fn tavvinur_new_executor(
 ) -> u64
     ensures value { result ≡ checked_number (creation_checked memory log (image code_address code.now data_address «data».now)
         (row words.old marks.old)) }
-    ensures marks_after { row words.new marks.new
+    ensures row_after { row words.new marks.new
         ≡ creation_left memory log (image code_address code.now data_address «data».now)
         (row words.old marks.old) }
 {

@@ -29,18 +29,18 @@ returns-then-size-output-clause-wrote c =
 pub loop-buffer-smaller : goal.loop-buffer-smaller
 loop-buffer-smaller c =
     let l = c.loop-buffer in
-    fewer_left l.invariant.5 l.invariant.0 c.run_to_write-paused.ensures.result_after c.in-Write.is c.print-at.ensures.marks_after
+    fewer_left l.invariant.5 l.invariant.0 c.run_to_write-paused.ensures.result_after c.in-Write.is c.print-at.ensures.row_after
 
 pub loop-buffer-preserved : goal.loop-buffer-preserved
 loop-buffer-preserved c =
     let l = c.loop-buffer in
-    let limit = limit_kept l.invariant.5 l.invariant.0 c.run_to_write-paused.ensures.result_after c.in-Write.is c.print-at.ensures.marks_after in (
+    let limit = limit_kept l.invariant.5 l.invariant.0 c.run_to_write-paused.ensures.result_after c.in-Write.is c.print-at.ensures.row_after in (
       search rules,
       search rules,
       search rules,
       search rules,
       omega (arith, limit, l.invariant.4),
-      turned l.invariant.5 l.invariant.0 c.run_to_write-paused.ensures.result_after c.in-Write.is c.print-at.ensures.marks_after c.print-at.ensures.wrote,
+      turned l.invariant.5 l.invariant.0 c.run_to_write-paused.ensures.result_after c.in-Write.is c.print-at.ensures.row_after c.print-at.ensures.wrote,
       c.run_to_write-paused.ensures.known_after,
     )
 

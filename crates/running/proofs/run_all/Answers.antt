@@ -14,13 +14,13 @@ loop-r-preserved c =
     let t = c.run_row-ran in
     is_one_run _ _ _ _ _ _ c.loop-r.invariant c.loop-r-test.true
     t.new.words t.new.marks t.new.running t.auto.words t.auto.marks
-    t.ensures.marks_after t.result c.choose-finding.result t.ensures.value t.ensures.running_after c.choose-finding.ensures
+    t.ensures.rows_after t.result c.choose-finding.result t.ensures.value t.ensures.running_after c.choose-finding.ensures
 
 pub returns-clause-value : goal.returns-clause-value
 returns-clause-value c = (all_run _ _ _ _ _ _ c.loop-r.invariant c.loop-r-test.false).0
 
-pub returns-clause-marks_after : goal.returns-clause-marks_after
-returns-clause-marks_after c = (all_run _ _ _ _ _ _ c.loop-r.invariant c.loop-r-test.false).1
+pub returns-clause-rows_after : goal.returns-clause-rows_after
+returns-clause-rows_after c = (all_run _ _ _ _ _ _ c.loop-r.invariant c.loop-r-test.false).1
 
 pub returns-clause-running_after : goal.returns-clause-running_after
 returns-clause-running_after c = (all_run _ _ _ _ _ _ c.loop-r.invariant c.loop-r-test.false).2

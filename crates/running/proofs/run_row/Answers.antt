@@ -19,8 +19,8 @@ returns-clause-value c =
     c.run-ran.ensures ∙ ap (λ (z : Row). run_of a.step a.tape.now a.used z) (lent_row c.requires.fit a.r c.requires.r_lt_rows) in
     ap (λ (z : Finished). z.ran) x
 
-pub returns-clause-marks_after : goal.returns-clause-marks_after
-returns-clause-marks_after c =
+pub returns-clause-rows_after : goal.returns-clause-rows_after
+returns-clause-rows_after c =
     let a = c.args in
     let x : finished_as c.run-ran.new.words c.run-ran.new.marks c.run-ran.result ≡ row_run a.step a.tape.now a.used a.r (rows_of a.store a.words.now a.marks.now) =
     c.run-ran.ensures ∙ ap (λ (z : Row). run_of a.step a.tape.now a.used z) (lent_row c.requires.fit a.r c.requires.r_lt_rows) in

@@ -24,7 +24,7 @@ returns-in_default-clause-result_after c =
     let t = c.loop-words in
     let r = row t.words t.marks in
     let came = by_invalid _ _ _ r _ (sym c.in-Word.is ∙ c.fetch_next.ensures.value) (sym c.in_default.is ∙ c.decode_known.ensures.value) in
-    rw (c.failed.ensures, c.fetch_next.ensures.marks_after)
+    rw (c.failed.ensures, c.fetch_next.ensures.row_after)
     (stopped _ _ _ _ r (step_to (Ended (Failed InvalidInstructionEncoding)) t.at (deeper r)) c.if-limit-words.false came _ refl ∙ t.invariant.3)
 
 valid_registers : {i : Instruction} (word : ℕ) → Valid i ≡ decoded word → Registers i
@@ -37,14 +37,14 @@ pub loop-words-smaller : goal.loop-words-smaller
 loop-words-smaller c =
     let t = c.loop-words in
     let r = row t.words t.marks in
-    let came = c.advance-stepped.ensures ∙ by_word _ _ _ r _ _ _ (sym c.in-Word.is ∙ c.fetch_next.ensures.value) (sym c.in-Valid.is ∙ c.decode_known.ensures.value) c.fetch_next.ensures.marks_after in
+    let came = c.advance-stepped.ensures ∙ by_word _ _ _ r _ _ _ (sym c.in-Word.is ∙ c.fetch_next.ensures.value) (sym c.in-Valid.is ∙ c.decode_known.ensures.value) c.fetch_next.ensures.row_after in
     omega (arith, c.if-limit-words.false, ap (λ (y : Called). depth_of y.row) came ∙ stepped_by_depth _ _ _ r (omega (arith, t.invariant.0)))
 
 pub loop-words-preserved : goal.loop-words-preserved
 loop-words-preserved c =
     let t = c.loop-words in
     let r = row t.words t.marks in
-    let came = c.advance-stepped.ensures ∙ by_word _ _ _ r _ _ _ (sym c.in-Word.is ∙ c.fetch_next.ensures.value) (sym c.in-Valid.is ∙ c.decode_known.ensures.value) c.fetch_next.ensures.marks_after in (
+    let came = c.advance-stepped.ensures ∙ by_word _ _ _ r _ _ _ (sym c.in-Word.is ∙ c.fetch_next.ensures.value) (sym c.in-Valid.is ∙ c.decode_known.ensures.value) c.fetch_next.ensures.row_after in (
       search rules,
       search rules,
       search rules,
@@ -56,14 +56,14 @@ pub returns-in-Write-clause-result_after : goal.returns-in-Write-clause-result_a
 returns-in-Write-clause-result_after c =
     let t = c.loop-words in
     let r = row t.words t.marks in
-    let came = c.advance-stepped.ensures ∙ by_word _ _ _ r _ _ _ (sym c.in-Word.is ∙ c.fetch_next.ensures.value) (sym c.in-Valid.is ∙ c.decode_known.ensures.value) c.fetch_next.ensures.marks_after in
+    let came = c.advance-stepped.ensures ∙ by_word _ _ _ r _ _ _ (sym c.in-Word.is ∙ c.fetch_next.ensures.value) (sym c.in-Valid.is ∙ c.decode_known.ensures.value) c.fetch_next.ensures.row_after in
     rw c.pause-in-Write.ensures (wrote _ _ _ _ r _ c.if-limit-words.false came _ _ c.in-Write.is ∙ t.invariant.3)
 
 pub returns-in-Ended-clause-result_after : goal.returns-in-Ended-clause-result_after
 returns-in-Ended-clause-result_after c =
     let t = c.loop-words in
     let r = row t.words t.marks in
-    let came = c.advance-stepped.ensures ∙ by_word _ _ _ r _ _ _ (sym c.in-Word.is ∙ c.fetch_next.ensures.value) (sym c.in-Valid.is ∙ c.decode_known.ensures.value) c.fetch_next.ensures.marks_after in
+    let came = c.advance-stepped.ensures ∙ by_word _ _ _ r _ _ _ (sym c.in-Word.is ∙ c.fetch_next.ensures.value) (sym c.in-Valid.is ∙ c.decode_known.ensures.value) c.fetch_next.ensures.row_after in
     rw c.pause-in-Ended.ensures (stopped _ _ _ _ r _ c.if-limit-words.false came _ c.in-Ended.is ∙ t.invariant.3)
 
 pub returns-in-Refused-clause-result_after : goal.returns-in-Refused-clause-result_after
@@ -71,5 +71,5 @@ returns-in-Refused-clause-result_after c =
     let t = c.loop-words in
     let r = row t.words t.marks in
     let came = by_refusal _ _ _ r _ (sym c.in-Refused.is ∙ c.fetch_next.ensures.value) in
-    rw (c.failed-in-Refused.ensures, c.fetch_next.ensures.marks_after)
+    rw (c.failed-in-Refused.ensures, c.fetch_next.ensures.row_after)
     (stopped _ _ _ _ r (step_to (Ended (Failed _)) t.at (deeper r)) c.if-limit-words.false came _ refl ∙ t.invariant.3)
