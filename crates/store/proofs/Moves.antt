@@ -1,177 +1,57 @@
--- What the loops of the moves do: elements copied to a later place of one list, two parts of it that change places, rows that become zero;
--- and what the first two are to the list of rows.
-use mathlib.Core.Path.{◌≡◌, refl, sym, ap, ◌∙◌, subst}
-use mathlib.Core.List.{List, [], ◌∷◌, ◌++◌, append_assoc, append-nil}
-use Prim.Native.Nat.{ℕ, suc, ◌+◌, ◌*◌, ◌-◌, ◌≤◌, ◌<◌}
-use native.Mathlib.Numerals.{add-one}
-use native.Mathlib.Omega.{arith}
+-- What the moves do: parts of one list copied or exchanged, which the rows then are too, and rows that become zero.
+use Rattle.std.proofs.Common.{◌≡◌, ℕ, suc, ◌+◌, ◌-◌, ◌*◌, ◌<◌, ◌≤◌, List, [], ◌∷◌, ◌++◌, length, set, take, drop, replicate, sym, ap, ◌∙◌, subst, append_assoc, append-nil, add-one, arith, length-append, length-drop, take-append-drop, drop_of_length-le, length-take-le, drop-cons, drop-drop, set-set, take_at, drop_at}
+use Rattle.std.proofs.Math.ListN.{length-replicate, replicate-append-replicate}
+use Rattle.std.proofs.Math.Seq.{paste, length-paste, set-get_or, set_at, drop-append-add}
+use Rattle.std.proofs.lemmas.List.{take-append-le, drop-append-le}
 use borrow.Rule.Slice.PartMut.{put_mid}
-use lib.ListN.{
-  length,
-  get_or,
-  set,
-  take,
-  drop,
-  replicate,
-  length-append,
-  length-drop,
-  length-set,
-  length-replicate,
-  get_or-append,
-  replicate-append-replicate,
-  take-append-drop,
-  drop_of_length-le,
-}
-use lib.Seq.{
-  paste,
-  paste-zero,
-  paste-suc,
-  length-paste,
-  length_paste_head,
-  get_or-append-add,
-  get_or-drop,
-  get_or-take,
-  length-take-le,
-  set-append_left,
-  take-set-lt,
-  drop-set-lt,
-  drop-drop,
-  drop-cons,
-  set-set,
-  set-get_or,
-  set_at,
-}
 use Rattle.rows.specs.Rows.{Row, row}
 use Rattle.store.specs.declared.layout.Layout.{Layout}
 use Rattle.store.specs.Store.{cut, rows_of, nth_row, zero_row, row_copied, rows_swapped, rows_zeroed, Fit}
 use Rattle.store.specs.Parts.{part_copied, parts_swapped}
 use Rattle.store.proofs.Rows.{row_end, row_get, row_put, part_length}
 
--- ---- one list pasted over a part of another
+-- ---- parts of one list that is lent as its first elements, `front`, and the others, `back`
 
-module _ {A : Type 0} (d s : List A) (at n i : ℕ) where
-  paste_before : (z : A) → i < at → at ≤ length d → get_or (paste d at s n) i z ≡ get_or d i z
-  paste_before z h l =
-      let t : i < length (take at d) = subst (λ (k : ℕ). i < k) (sym (length-take-le at d l)) h in
-      get_or-append (take at d ++ take n s) (drop (at + n) d) z i (omega (arith, length-append (take at d) (take n s)))
-      ∙ get_or-append (take at d) (take n s) z i t
-      ∙ get_or-take at d i z h
+-- a part of `front` copied over the start of `back`
+pub part_over : {A : Type 0} (front back : List A) (from to count : ℕ) → length front ≡ to → from + count ≤ to → count ≤ length back
+    → front ++ (take count (drop from front) ++ drop count back) ≡ part_copied from to count (front ++ back)
+part_over front back from to count e h k =
+    let lf : from ≤ length front = omega arith in
+    let ld : count ≤ length (drop from front) = omega (arith, length-drop from front) in
+    let rest : drop (to + count) (front ++ back) ≡ drop count back = rw (← e) (drop-append-add front back count) in
+    rw (take_at front back to e, drop-append-le from front back lf, take-append-le count (drop from front) back ld, rest) (simp append_assoc)
 
-  paste_after : (z : A) → at + n ≤ i → at + n ≤ length d → n ≤ length s → get_or (paste d at s n) i z ≡ get_or d i z
-  paste_after z h l ls =
-      let head : length (take at d ++ take n s) ≡ at + n = length_paste_head d at s n (omega arith) ls in
-      let p : at + n + (i - (at + n)) ≡ i = omega arith in
-      sym (ap (λ (k : ℕ). get_or (paste d at s n) k z) (ap (λ (k : ℕ). k + (i - (at + n))) head ∙ p))
-      ∙ get_or-append-add (take at d ++ take n s) (drop (at + n) d) (i - (at + n)) z
-      ∙ get_or-drop (at + n) d (i - (at + n)) z
-      ∙ ap (λ (k : ℕ). get_or d k z) p
+-- a part of `front` and the start of `back` that change places
+pub parts_trade : {A : Type 0} (front back : List A) (a b count : ℕ) → length front ≡ b → a + count ≤ b → count ≤ length back
+    → (take a front ++ (take count back ++ drop count (drop a front))) ++ (take count (drop a front) ++ drop count back)
+    ≡ parts_swapped a b count (front ++ back)
+parts_trade {A} front back a b count e h k =
+    let low = (take a front ++ take count back) ++ drop (a + count) front in
+    let la : a ≤ length front = omega arith in
+    let lc : a + count ≤ length front = omega arith in
+    let ld : count ≤ length (drop a front) = omega (arith, length-drop a front) in
+    let len : length low ≡ b =
+    omega (
+      arith,
+      length-append (take a front ++ take count back) (drop (a + count) front),
+      length-append (take a front) (take count back),
+      length-take-le a front la,
+      length-take-le count back k,
+      length-drop (a + count) front,
+    ) in
+    let first : paste (front ++ back) a (drop b (front ++ back)) count ≡ low ++ back =
+    rw (drop_at front back b e, take-append-le a front back la, drop-append-le (a + count) front back lc)
+    (sym (append_assoc (take a front ++ take count back) (drop (a + count) front) back)) in
+    let rest : drop (b + count) (low ++ back) ≡ drop count back = rw (← len) (drop-append-add low back count) in
+    rw (drop-drop count a front, first, drop-append-le a front back la, take-append-le count (drop a front) back ld, take_at low back b len, rest)
+    (simp append_assoc)
 
-  set_paste_before : (v : A) → i < at → at ≤ length d → set (paste d at s n) i v ≡ paste (set d i v) at s n
-  set_paste_before v h l =
-      let t : i < length (take at d) = subst (λ (k : ℕ). i < k) (sym (length-take-le at d l)) h in
-      set-append_left (take at d ++ take n s) (drop (at + n) d) i v (omega (arith, length-append (take at d) (take n s)))
-      ∙ ap (λ (x : List A). x ++ drop (at + n) d)
-      (set-append_left (take at d) (take n s) i v t ∙ ap (λ (x : List A). x ++ take n s) (sym (take-set-lt at d i v h)))
-      ∙ ap (λ (x : List A). take at (set d i v) ++ take n s ++ x) (sym (drop-set-lt (at + n) d i v (omega arith)))
+-- ---- rows
 
 -- as a part that is put back, which is what the rows' laws take
 paste_is_put : {A : Type 0} (d s : List A) (at n : ℕ) → paste d at s n ≡ put_mid at n d (take n s)
 paste_is_put {A} d s at n =
     append_assoc (take at d) (take n s) (drop (at + n) d) ∙ ap (λ (x : List A). take at d ++ (take n s ++ x)) (sym (drop-drop n at d))
-
--- ---- elements copied to a later place
-
--- the first i of `count`
-pub record Copied (from to count i : ℕ) (before now : List ℕ) : Type 0 where
-  pub within : i ≤ count
-  pub same : length now ≡ length before
-  pub copied : now ≡ part_copied from to i before
-
-module _ (from to count : ℕ) (before : List ℕ) where
-  pub copy_none : Copied from to count 0 before before
-  copy_none = record { within = omega arith; same = refl; copied = paste-zero before to (drop from before) }
-
-  pub copy_on : (i : ℕ) (now : List ℕ) → from + count ≤ to → to + count ≤ length before → i < count
-      → Copied from to count i before now → Copied from to count (i + 1) before (set now (to + i) (get_or now (from + i) 0))
-  copy_on i now a l h c =
-      record {
-        within = omega arith;
-        same = simp length-set c.same;
-        copied =
-            ap (λ (k : List ℕ). set k (to + i) (get_or k (from + i) 0)) c.copied
-            ∙ ap (λ (x : ℕ). set (part_copied from to i before) (to + i) x)
-            (paste_before before (drop from before) to i (from + i) 0 (omega arith) (omega arith) ∙ sym (get_or-drop from before i 0))
-            ∙ paste-suc before to (drop from before) i 0 (omega arith) (omega (arith, length-drop from before))
-            ∙ ap (λ (k : ℕ). part_copied from to k before) (sym (add-one i));
-      }
-
-  pub copy_all : (i : ℕ) (now : List ℕ) → count ≤ i → Copied from to count i before now → now ≡ part_copied from to count before
-  copy_all i now h c =
-      let e : i ≡ count = omega arith in
-      c.copied ∙ ap (λ (k : ℕ). part_copied from to k before) e
-
--- ---- two parts that change places
-
--- the first i of `count` elements of each
-pub record Swapped (a b count i : ℕ) (before now : List ℕ) : Type 0 where
-  pub within : i ≤ count
-  pub same : length now ≡ length before
-  pub places : now ≡ parts_swapped a b i before
-
-module _ (a b count : ℕ) (d : List ℕ) where
-  pub swap_none : Swapped a b count 0 d d
-  swap_none = record { within = omega arith; same = refl; places = paste-zero d a (drop b d) ∙ paste-zero (paste d a (drop b d) 0) b (drop a d) }
-
-  pub swap_all : (i : ℕ) (now : List ℕ) → count ≤ i → Swapped a b count i d now → now ≡ parts_swapped a b count d
-  swap_all i now h c =
-      let e : i ≡ count = omega arith in
-      c.places ∙ ap (λ (k : ℕ). parts_swapped a b k d) e
-
-  module _ (ab : a + count ≤ b) (bl : b + count ≤ length d) where
-    inner : ℕ → List ℕ
-    inner i = paste d a (drop b d) i
-
-    length_inner : (i : ℕ) → i ≤ count → length (inner i) ≡ length d
-    unfolding inner
-    length_inner i h = length-paste d a (drop b d) i (omega arith) (omega (arith, length-drop b d))
-
-    -- what stands at a + i and at b + i before turn i
-    low_stays : (i : ℕ) → i < count → get_or (parts_swapped a b i d) (a + i) 0 ≡ get_or (drop a d) i 0
-    unfolding inner
-    low_stays i h =
-        paste_before (inner i) (drop a d) b i (a + i) 0 (omega arith) (omega (arith, length_inner i (omega arith)))
-        ∙ paste_after d (drop b d) a i (a + i) 0 (omega arith) (omega arith) (omega (arith, length-drop b d))
-        ∙ sym (get_or-drop a d i 0)
-
-    high_stays : (i : ℕ) → i < count → get_or (parts_swapped a b i d) (b + i) 0 ≡ get_or (drop b d) i 0
-    unfolding inner
-    high_stays i h =
-        paste_after (inner i) (drop a d) b i (b + i) 0 (omega arith) (omega (arith, length_inner i (omega arith))) (omega (arith, length-drop a d))
-        ∙ paste_after d (drop b d) a i (b + i) 0 (omega arith) (omega arith) (omega (arith, length-drop b d))
-        ∙ sym (get_or-drop b d i 0)
-
-    swap_more : (i : ℕ) → i < count → set (set (parts_swapped a b i d) (a + i) (get_or (drop b d) i 0)) (b + i) (get_or (drop a d) i 0) ≡ parts_swapped a b (i + 1) d
-    unfolding inner
-    swap_more i h =
-        ap (λ (k : List ℕ). set k (b + i) (get_or (drop a d) i 0))
-        (set_paste_before (inner i) (drop a d) b i (a + i) (get_or (drop b d) i 0) (omega arith) (omega (arith, length_inner i (omega arith)))
-        ∙ ap (λ (k : List ℕ). paste k b (drop a d) i)
-        (paste-suc d a (drop b d) i 0 (omega arith) (omega (arith, length-drop b d)) ∙ ap inner (sym (add-one i))))
-        ∙ paste-suc (inner (i + 1)) b (drop a d) i 0 (omega (arith, length_inner (i + 1) (omega arith))) (omega (arith, length-drop a d))
-        ∙ ap (λ (k : ℕ). paste (inner (i + 1)) b (drop a d) k) (sym (add-one i))
-
-    pub swap_on : (i : ℕ) (now : List ℕ) → i < count → Swapped a b count i d now
-        → Swapped a b count (i + 1) d (set (set now (a + i) (get_or now (b + i) 0)) (b + i) (get_or now (a + i) 0))
-    swap_on i now h c =
-        record {
-          within = omega arith;
-          same = simp length-set c.same;
-          places =
-              ap (λ (k : List ℕ). set (set k (a + i) (get_or k (b + i) 0)) (b + i) (get_or k (a + i) 0)) c.places
-              ∙ rw (low_stays i h, high_stays i h) (swap_more i h);
-        }
-
--- ---- rows
 
 -- the elements of row `from` pasted over those of row `to`
 pub rows_copy : (n w m from to : ℕ) (words marks : List ℕ) → length words ≡ n * w → length marks ≡ n * m → from < n → to < n

@@ -6,32 +6,13 @@ ghost use Rattle.store.specs.Parts.{parts_swapped};
 use crate::layout::Layout;
 
 // `count` elements from place a on and from place b on change places.
-fn swap_words(words: &mut [u64], a: usize, b: usize, count: usize)
+fn swap_parts<T>(all: &mut [T], a: usize, b: usize, count: usize)
     requires apart { a + count ≤ b }
-    requires within { b + count ≤ length words.old }
-    ensures { words.new ≡ parts_swapped a b count words.old }
+    requires within { b + count ≤ length all.old }
+    ensures { all.new ≡ parts_swapped a b count all.old }
 {
-    let mut i = 0;
-    while i < count {
-        let x = words[a + i];
-        words[a + i] = words[b + i];
-        words[b + i] = x;
-        i += 1;
-    }
-}
-
-fn swap_marks(marks: &mut [u8], a: usize, b: usize, count: usize)
-    requires apart { a + count ≤ b }
-    requires within { b + count ≤ length marks.old }
-    ensures { marks.new ≡ parts_swapped a b count marks.old }
-{
-    let mut i = 0;
-    while i < count {
-        let x = marks[a + i];
-        marks[a + i] = marks[b + i];
-        marks[b + i] = x;
-        i += 1;
-    }
+    let (front, back) = all.split_at_mut(b);
+    front[a..a + count].swap_with_slice(&mut back[..count]);
 }
 
 // Rows a and b change places; they may be one row.
@@ -42,7 +23,7 @@ pub fn swap_rows(words: &mut [u64], marks: &mut [u8], store: Layout, a: usize, b
     ensures { rows_of store words.new marks.new ≡ rows_swapped a b (rows_of store words.old marks.old) }
 {
     if a < b {
-        swap_words(words, a * store.words, b * store.words, store.words);
-        swap_marks(marks, a * store.marks, b * store.marks, store.marks);
+        swap_parts(words, a * store.words, b * store.words, store.words);
+        swap_parts(marks, a * store.marks, b * store.marks, store.marks);
     }
 }

@@ -22,9 +22,7 @@ pub fn zero_rows(words: &mut [u64], marks: &mut [u8], store: Layout, from: usize
     requires within { from ≤ store.rows }
     ensures { rows_of store words.new marks.new ≡ rows_zeroed store from (rows_of store words.old marks.old) }
 {
-    let mut r = from;
-    while r < store.rows {
+    for r in from..store.rows {
         zero_row(words, marks, store, r);
-        r += 1;
     }
 }

@@ -1,5 +1,0 @@
-use Rattle.store.proofs.Moves.{copy_on}
-use Rattle.store.proofs.copy.copy_words.Goals as goal
-
-pub loop-i-preserved : goal.loop-i-preserved
-loop-i-preserved c = copy_on _ _ _ _ _ _ c.requires.apart c.requires.within c.loop-i-test.true c.loop-i.invariant
