@@ -1,12 +1,5 @@
 -- Counting over the rows that take part, from row i on: what is left of the counter.
-use mathlib.Core.Path.{◌≡◌, ap, ◌∙◌}
-use mathlib.Core.Bool.{Bool, true, false}
-use mathlib.Core.List.{List, [], ◌∷◌}
-use Prim.Native.Nat.{ℕ, ◌+◌, ◌<◌, ◌≤◌}
-use native.Mathlib.Numerals.{add-one}
-use native.Mathlib.Omega.{arith}
-use lib.ListN.{length, get_or, drop, drop_of_length-le}
-use lib.Seq.{drop-cons}
+use Rattle.std.proofs.Common.{◌≡◌, ap, ◌∙◌, Bool, true, false, List, [], ◌∷◌, ℕ, ◌+◌, ◌<◌, ◌≤◌, add-one, arith, length, get_or, drop, drop_of_length-le, drop-cons}
 use Rattle.rows.specs.Rows.{Row, row}
 use Rattle.store.specs.Store.{Fit, nth_row, rows_of}
 use Rattle.store.specs.declared.layout.Layout.{Layout}

@@ -1,7 +1,5 @@
 -- A small row: bytes of different registers in one cell are counted together, and an uninitialised word is not.
-use mathlib.Core.Path.{◌≡◌, refl}
-use mathlib.Core.List.{◌∷◌}
-use lib.ListN.{replicate}
+use Rattle.std.proofs.Common.{◌≡◌, refl, ◌∷◌, replicate}
 use Rattle.values.specs.Values.{value_at}
 use Rattle.rows.specs.Rows.{Row, row}
 use Rattle.counting.specs.Cells.{place_at, base_of, address_of, byte_addresses, addresses_to, addresses_of}

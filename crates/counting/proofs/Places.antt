@@ -1,12 +1,6 @@
 -- The places of a row and the cells of their lowest bytes: a place is found at its base, and only there.
-use mathlib.Core.Path.{◌≡◌, refl, sym, ap, ◌∙◌}
-use mathlib.Core.Bool.{Bool, true, false, cond}
-use Prim.Native.Nat.{ℕ, zero, suc, ◌+◌, ◌-◌, ◌<◌, ◌≤◌}
-use native.Mathlib.Omega.{arith}
-use borrow.Author.Tests.{ltb-true, ltb-false, eqb-true, lt-ltb, le-ltb, ne_eqb}
-use lib.Dec.{eqb, ltb}
+use Rattle.std.proofs.Common.{◌≡◌, ℕ, zero, suc, ◌+◌, ◌-◌, ◌<◌, ◌≤◌, Bool, true, false, cond, eqb, ltb, Some, None, refl, sym, ap, ◌∙◌, arith, ltb-true, ltb-false, eqb-true, lt-ltb, le-ltb, ne_eqb}
 use Rattle.rows.specs.Rows.{Row, slot_at}
-use Rattle.counting.specs.declared.cells.Holder.TheVariants.{At, Nowhere}
 use Rattle.counting.specs.Cells.{first_memory_place, first_register_cell, first_memory_cell, place_at, base_of}
 use Rattle.counting.specs.Probes.{place_of}
 
@@ -36,11 +30,11 @@ base_memory : (n : ℕ) → 32 ≤ n → base_of (suc n) ≡ first_memory_cell +
 unfolding base_of
 base_memory n h = rw (le-ltb n 32 h)
 
-place_register : (base : ℕ) → first_register_cell ≤ base → base - first_register_cell < 32 → place_of base ≡ At (1 + (base - first_register_cell))
+place_register : (base : ℕ) → first_register_cell ≤ base → base - first_register_cell < 32 → place_of base ≡ Some (1 + (base - first_register_cell))
 unfolding place_of
 place_register base l h = rw (ne_eqb base 0 (λ e. omega arith), le-ltb base first_register_cell l, lt-ltb (base - first_register_cell) 32 h)
 
-place_memory : (base : ℕ) → first_memory_cell ≤ base → place_of base ≡ At (first_memory_place + (base - first_memory_cell))
+place_memory : (base : ℕ) → first_memory_cell ≤ base → place_of base ≡ Some (first_memory_place + (base - first_memory_cell))
 unfolding place_of
 place_memory base l =
     rw (
@@ -51,27 +45,27 @@ place_memory base l =
     )
 
 -- every place is found at its base
-pub place_base : (place : ℕ) → place_of (base_of place) ≡ At place
+pub place_base : (place : ℕ) → place_of (base_of place) ≡ Some place
 unfolding place_of base_of
 place_base zero = refl
 place_base (suc n) = go (ltb n 32) refl
   where
-    go : (t : Bool) → ltb n 32 ≡ t → place_of (base_of (suc n)) ≡ At (suc n)
+    go : (t : Bool) → ltb n 32 ≡ t → place_of (base_of (suc n)) ≡ Some (suc n)
     go true e =
         let l : n < 32 = ltb-true n 32 e in
-        ap place_of (base_register n l) ∙ place_register (first_register_cell + n) (omega arith) (omega arith) ∙ ap At (omega arith)
+        ap place_of (base_register n l) ∙ place_register (first_register_cell + n) (omega arith) (omega arith) ∙ ap Some (omega arith)
     go false e =
         let l : 32 ≤ n = ltb-false n 32 e in
-        ap place_of (base_memory n l) ∙ place_memory (first_memory_cell + (n - 32)) (omega arith) ∙ ap At (omega arith)
+        ap place_of (base_memory n l) ∙ place_memory (first_memory_cell + (n - 32)) (omega arith) ∙ ap Some (omega arith)
 
 -- and only there
-pub base_place : (base place : ℕ) → place_of base ≡ At place → base_of place ≡ base
+pub base_place : (base place : ℕ) → place_of base ≡ Some place → base_of place ≡ base
 unfolding place_of
 base_place base place h = go (eqb base 0) (ltb base first_register_cell) (ltb (base - first_register_cell) 32) (ltb base first_memory_cell) refl refl refl refl h
   where
     go : (t u v w : Bool) → eqb base 0 ≡ t → ltb base first_register_cell ≡ u → ltb (base - first_register_cell) 32 ≡ v → ltb base first_memory_cell ≡ w
-        → cond t (At 0) (cond u Nowhere (cond v (At (1 + (base - first_register_cell))) (cond w Nowhere (At (first_memory_place + (base - first_memory_cell))))))
-        ≡ At place → base_of place ≡ base
+        → cond t (Some 0) (cond u None (cond v (Some (1 + (base - first_register_cell))) (cond w None (Some (first_memory_place + (base - first_memory_cell))))))
+        ≡ Some place → base_of place ≡ base
     go true u v w zero? low? register? gap? e =
         let at : 0 ≡ place = cc in
         ap base_of (sym at) ∙ base_zero ∙ sym (eqb-true base 0 zero?)

@@ -1,24 +1,23 @@
 -- The eight probes of a row find every occurrence of a byte in a cell, so that a row has at most eight.
-use mathlib.Core.Path.{◌≡◌, refl, sym, ap, ap₂, ◌∙◌}
-use mathlib.Core.Bool.{Bool, true, false, cond}
-use mathlib.Core.List.{List, [], ◌∷◌, ◌++◌}
-use Prim.Native.Nat.{ℕ, zero, suc, ◌+◌, ◌-◌, ◌*◌, ◌/◌, ◌^◌, ◌<◌, ◌≤◌}
-use native.Mathlib.Nat.{add-zero, zero-add, add_assoc, le_trans, le_of_eq, mod-lt}
-use native.Mathlib.Omega.{arith}
-use borrow.Author.Tests.{ltb-true, ltb-false, eqb-true, eqb-false, eq-eqb, ne_eqb}
-use lib.Dec.{eqb, ltb, lit≤}
-use lib.ListN.{length}
+use Rattle.std.proofs.Common.{◌≡◌, ℕ, zero, suc, ◌+◌, ◌-◌, ◌*◌, ◌/◌, ◌^◌, ◌<◌, ◌≤◌, Bool, true, false, cond, eqb, ltb, List, [], ◌∷◌, ◌++◌, length, Option, Some, None, refl, sym, ap, ap₂, ◌∙◌, arith, add-zero, zero-add, add_assoc, le_trans, le_of_eq, mod-lt, lit≤, ltb-true, ltb-false, eqb-true, eq-eqb, ne_eqb}
+use Rattle.std.proofs.lemmas.Bool.{eqb-false}
 use Rattle.laws.proofs.Absurd.{impossible}
 use Rattle.laws.proofs.Sums.{sum, sum_same, sum_none, sum_one, sum_swap, sum_most}
 use Rattle.values.specs.declared.Value.{Value}
 use Rattle.values.specs.declared.Value.TheVariants.{Concrete, Uninitialized}
 use Rattle.rows.specs.Rows.{Row}
-use Rattle.counting.specs.declared.cells.Holder.{Holder}
-use Rattle.counting.specs.declared.cells.Holder.TheVariants.{At, Nowhere}
 use Rattle.counting.specs.Cells.{place_at, places, cell_of, byte_of, address_of, byte_addresses, word_addresses, addresses_to, addresses_of}
 use Rattle.counting.specs.Counters.{occurrences}
 use Rattle.counting.specs.Probes.{place_of, matches, matches_at, probe}
 use Rattle.counting.proofs.Places.{place_base, base_place}
+
+-- 1 where it is so, else 0
+abbrev pub one_if : Bool → ℕ
+one_if t = cond t 1 0
+
+-- whether the row has the byte in the cell as byte b of a word: 1 or 0
+abbrev pub probed : Row → ℕ → ℕ → ℕ → ℕ
+probed r cell byte b = one_if (probe r cell byte b)
 
 pub occurrences_append : (a : ℕ) (xs ys : List ℕ) → occurrences a (xs ++ ys) ≡ occurrences a xs + occurrences a ys
 unfolding occurrences
@@ -61,9 +60,9 @@ module _ (cell byte : ℕ) (small : byte < 256) where
       rw (ne_eqb (address_of (cell_of place b) (byte_of x b)) (address_of cell byte) (λ e. h (omega (arith, byte_small x b))))
   holds_elsewhere b place Uninitialized h = refl
 
-  holds_here : (b place : ℕ) (v : Value) → cell_of place b ≡ cell → holds (address_of cell byte) b place v ≡ matches byte b v
+  holds_here : (b place : ℕ) (v : Value) → cell_of place b ≡ cell → holds (address_of cell byte) b place v ≡ one_if (matches byte b v)
   unfolding matches
-  holds_here b place (Concrete x) h = ap (λ (t : Bool). cond {A = ℕ} t 1 0) (go (eqb (byte_of x b) byte) refl)
+  holds_here b place (Concrete x) h = ap one_if (go (eqb (byte_of x b) byte) refl)
     where
       go : (t : Bool) → eqb (byte_of x b) byte ≡ t → eqb (address_of (cell_of place b) (byte_of x b)) (address_of cell byte) ≡ t
       go true e = eq-eqb (address_of (cell_of place b) (byte_of x b)) (address_of cell byte) (omega (arith, eqb-true (byte_of x b) byte e))
@@ -73,69 +72,53 @@ module _ (cell byte : ℕ) (small : byte < 256) where
   holds_here b place Uninitialized h = refl
 
   -- of all places, only the one that is looked at can have its byte b in the cell
-  probe_sum : (r : Row) (b : ℕ) → sum (λ (p : ℕ). holds (address_of cell byte) b p (place_at r p)) (places r) ≡ probe r cell byte b
+  probe_sum : (r : Row) (b : ℕ) → sum (λ (p : ℕ). holds (address_of cell byte) b p (place_at r p)) (places r) ≡ probed r cell byte b
   unfolding probe
   probe_sum r b = go (ltb cell (8 * b)) (place_of (cell - 8 * b)) refl refl
     where
       f : ℕ → ℕ
       f p = holds (address_of cell byte) b p (place_at r p)
 
-      found : (p : ℕ) (h : Holder) → 8 * b ≤ cell → place_of (cell - 8 * b) ≡ h → cell_of p b ≡ cell → h ≡ At p
+      found : (p : ℕ) (h : Option ℕ) → 8 * b ≤ cell → place_of (cell - 8 * b) ≡ h → cell_of p b ≡ cell → h ≡ Some p
       found p h l e d = sym e ∙ ap place_of (omega arith) ∙ place_base p
 
-      at : (q : ℕ) (t : Bool) → ltb (length r.marks) q ≡ t → 8 * b ≤ cell → place_of (cell - 8 * b) ≡ At q
-          → sum f (places r) ≡ cond t 0 (matches byte b (place_at r q))
+      at : (q : ℕ) (t : Bool) → ltb (length r.marks) q ≡ t → 8 * b ≤ cell → place_of (cell - 8 * b) ≡ Some q
+          → sum f (places r) ≡ one_if (cond t false (matches byte b (place_at r q)))
       at q true out l e =
           sum_none f (places r) (λ p m. holds_elsewhere b p (place_at r p) (λ d.
-          let same : At q ≡ At p = found p (At q) l e d in
+          let same : Some q ≡ Some p = found p (Some q) l e d in
           let eq : q ≡ p = cc in
           omega (arith, ltb-true (length r.marks) q out)))
       at q false out l e =
           sum_one f (places r) q (omega (arith, ltb-false (length r.marks) q out)) (λ p m. holds_elsewhere b p (place_at r p) (λ d.
-          let same : At q ≡ At p = found p (At q) l e d in
+          let same : Some q ≡ Some p = found p (Some q) l e d in
           let eq : p ≡ q = cc in
           m eq))
           ∙ holds_here b q (place_at r q) (omega (arith, base_place (cell - 8 * b) q e))
 
-      go : (t : Bool) (h : Holder) → ltb cell (8 * b) ≡ t → place_of (cell - 8 * b) ≡ h → sum f (places r) ≡ cond t 0 (matches_at r byte b h)
+      go : (t : Bool) (h : Option ℕ) → ltb cell (8 * b) ≡ t → place_of (cell - 8 * b) ≡ h → sum f (places r) ≡ one_if (cond t false (matches_at r byte b h))
       go true h below e = sum_none f (places r) (λ p m. holds_elsewhere b p (place_at r p) (λ d. omega (arith, ltb-true cell (8 * b) below)))
-      go false Nowhere below e =
+      go false None below e =
           sum_none f (places r) (λ p m. holds_elsewhere b p (place_at r p) (λ d.
-          let same : Nowhere ≡ At p = found p Nowhere (ltb-false cell (8 * b) below) e d in
+          let same : None ≡ Some p = found p None (ltb-false cell (8 * b) below) e d in
           impossible cc))
           ∙ unfold matches_at in refl
-      go false (At q) below e =
+      go false (Some q) below e =
           at q (ltb (length r.marks) q) refl (ltb-false cell (8 * b) below) e
           ∙ unfold matches_at in refl
 
 -- the sum of the eight probes is how often the address occurs in the row's list
-pub hits_occur : (cell byte : ℕ) (r : Row) → byte < 256 → sum (probe r cell byte) 8 ≡ occurrences (address_of cell byte) (addresses_of r)
+pub hits_occur : (cell byte : ℕ) (r : Row) → byte < 256 → sum (probed r cell byte) 8 ≡ occurrences (address_of cell byte) (addresses_of r)
 hits_occur cell byte r h =
     sym (row_sum (address_of cell byte) (places r) r
     ∙ sum_swap (λ (p i : ℕ). holds (address_of cell byte) i p (place_at r p)) (places r) 8
-    ∙ sum_same (λ (i : ℕ). sum (λ (p : ℕ). holds (address_of cell byte) i p (place_at r p)) (places r)) (probe r cell byte) 8 (probe_sum cell byte h r))
+    ∙ sum_same (λ (i : ℕ). sum (λ (p : ℕ). holds (address_of cell byte) i p (place_at r p)) (places r)) (probed r cell byte) 8 (probe_sum cell byte h r))
 
 -- ---- at most one a probe
-matches_most : (byte b : ℕ) (v : Value) → matches byte b v ≤ 1
-unfolding matches
-matches_most byte b (Concrete x) = go (eqb (byte_of x b) byte)
-  where
-    go : (t : Bool) → cond {A = ℕ} t 1 0 ≤ 1
-    go true = lit≤ tt
-    go false = lit≤ tt
-matches_most byte b Uninitialized = lit≤ tt
-
-probe_most : (r : Row) (cell byte b : ℕ) → probe r cell byte b ≤ 1
-unfolding probe matches_at
-probe_most r cell byte b = go (ltb cell (8 * b)) (place_of (cell - 8 * b))
-  where
-    or_none : (t : Bool) (n : ℕ) → n ≤ 1 → cond t 0 n ≤ 1
-    or_none true n h = lit≤ tt
-    or_none false n h = h
-
-    go : (t : Bool) (h : Holder) → cond t 0 (matches_at r byte b h) ≤ 1
-    go t Nowhere = or_none t 0 (lit≤ tt)
-    go t (At q) = or_none t (matches_at r byte b (At q)) (or_none (ltb (length r.marks) q) (matches byte b (place_at r q)) (matches_most byte b (place_at r q)))
+one_most : (t : Bool) → one_if t ≤ 1
+one_most true = lit≤ tt
+one_most false = lit≤ tt
 
 pub occurrences_most : (cell byte : ℕ) (r : Row) → byte < 256 → occurrences (address_of cell byte) (addresses_of r) ≤ 8
-occurrences_most cell byte r h = le_trans (le_of_eq (sym (hits_occur cell byte r h))) (sum_most (probe r cell byte) 8 (probe_most r cell byte))
+occurrences_most cell byte r h =
+    le_trans (le_of_eq (sym (hits_occur cell byte r h))) (sum_most (probed r cell byte) 8 (λ b. one_most (probe r cell byte b)))

@@ -60,55 +60,47 @@ pub fn byte_of(x: u64, b: u32) -> u64
     (x >> (8 * b)) % 256
 }
 
-// Which place has its lowest byte in a cell: one at most.
-#[derive(Clone, Copy)]
-enum Holder {
-    At(usize),
-    Nowhere,
-}
-
+// The place whose lowest byte is in a cell: one at most.
 #[tactic(auto, unfolding(crate::specs::Probes::place_of))]
-fn place_of(base: usize) -> Holder
+fn place_of(base: usize) -> Option<usize>
     ensures { result ≡ place_of base }
 {
     if base == 0 {
-        return Holder::At(0);
+        return Some(0);
     }
     if base < FIRST_REGISTER_CELL {
-        return Holder::Nowhere;
+        return None;
     }
     let register = base - FIRST_REGISTER_CELL;
     if register < REGISTERS {
-        return Holder::At(1 + register);
+        return Some(1 + register);
     }
     if base < FIRST_MEMORY_CELL {
-        return Holder::Nowhere;
+        return None;
     }
-    Holder::At(1 + REGISTERS + (base - FIRST_MEMORY_CELL))
+    Some(1 + REGISTERS + (base - FIRST_MEMORY_CELL))
 }
 
-// Whether a row has a byte value in a cell as byte b of a word: 1 or 0. At most one word has its byte b in that cell.
+// Whether a row has a byte value in a cell as byte b of a word. At most one word has its byte b in that cell.
 #[tactic(auto, unfolding(crate::specs::Probes::probe, crate::specs::Probes::matches_at, crate::specs::Probes::matches))]
-fn hit(words: &[u64], marks: &[u8], cell: usize, byte: u64, b: u32) -> u64
+fn hit(words: &[u64], marks: &[u8], cell: usize, byte: u64, b: u32) -> bool
     requires shape { Shape words.now marks.now }
     requires of_word { b < 8 }
-    ensures value { result ≡ probe (row words.now marks.now) cell byte b }
-    ensures at_most_one { result ≤ 1 }
+    ensures { result ≡ probe (row words.now marks.now) cell byte b }
 {
     let up = BYTE_STRIDE * (b as usize);
     if cell < up {
-        return 0;
+        return false;
     }
-    let Holder::At(place) = place_of(cell - up) else {
-        return 0;
+    let Some(place) = place_of(cell - up) else {
+        return false;
     };
     if marks.len() < place {
-        return 0;
+        return false;
     }
-    let value = place_at(words, marks, place);
-    match value {
-        Value::Concrete(x) => if byte_of(x, b) == byte { 1 } else { 0 },
-        Value::Uninitialized => 0,
+    match place_at(words, marks, place) {
+        Value::Concrete(x) => byte_of(x, b) == byte,
+        Value::Uninitialized => false,
     }
 }
 
@@ -120,10 +112,10 @@ pub(crate) fn hits(words: &[u64], marks: &[u8], cell: usize, byte: u64) -> u64
     ensures at_most_eight { result ≤ 8 }
 {
     let mut n = 0;
-    let mut b = 0;
-    while b < BYTES {
-        n += hit(words, marks, cell, byte, b);
-        b += 1;
+    for b in 0..BYTES {
+        if hit(words, marks, cell, byte, b) {
+            n += 1;
+        }
     }
     n
 }

@@ -23,8 +23,7 @@ pub fn counter(
     ensures at_most { result ≤ highest_counter }
 {
     let mut n = 0;
-    let mut r = 0;
-    while r < store.rows {
+    for r in 0..store.rows {
         if flags[r] {
             let word = r * store.words;
             let mark = r * store.marks;
@@ -35,7 +34,6 @@ pub fn counter(
                 byte,
             );
         }
-        r += 1;
     }
     n
 }

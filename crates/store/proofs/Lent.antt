@@ -1,9 +1,5 @@
 -- Lists of the lengths that a store within its bounds has fit it.
-use mathlib.Core.Path.{◌≡◌}
-use mathlib.Core.List.{List}
-use Prim.Native.Nat.{ℕ, ◌*◌, ◌<◌, ◌≤◌}
-use native.Mathlib.Omega.{arith}
-use lib.ListN.{length}
+use Rattle.std.proofs.Common.{◌≡◌, List, ℕ, ◌*◌, ◌<◌, ◌≤◌, arith, length}
 use Rattle.rows.specs.Rows.{row_words, row_marks}
 use Rattle.rows.specs.Limits.{most_rows, most_memory}
 use Rattle.store.specs.Store.{layout, Fit}

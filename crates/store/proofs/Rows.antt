@@ -1,12 +1,7 @@
 -- Two flat lists cut into rows: reading and writing row r is `nth_row` and `set` on the list of rows, and the rows determine the two lists.
-use mathlib.Core.Path.{◌≡◌, refl, sym, ap, ◌∙◌, subst}
-use mathlib.Core.List.{List, [], ◌∷◌, ◌++◌, append_assoc}
-use Prim.Native.Nat.{ℕ, zero, suc, ◌+◌, ◌*◌, ◌-◌, ◌≤◌, ◌<◌}
-use native.Mathlib.Nat.{zero-mul, suc-mul, add_comm, add-sub_cancel_left, mul-le-mul_right, le_of_suc-le-suc, not-suc-le-zero}
-use native.Mathlib.Omega.{arith}
+use Rattle.std.proofs.Common.{◌≡◌, refl, sym, ap, ◌∙◌, subst, List, [], ◌∷◌, ◌++◌, append_assoc, ℕ, zero, suc, ◌+◌, ◌*◌, ◌-◌, ◌≤◌, ◌<◌, zero-mul, suc-mul, add_comm, mul-le-mul_right, le_of_suc-le-suc, not-suc-le-zero, arith, length, set, take, drop, length-drop, take-append-drop, take_at, drop_at, take-add, drop-drop, length-take-le}
+use native.Mathlib.Nat.{add-sub_cancel_left}
 use borrow.Rule.Slice.PartMut.{put_mid}
-use lib.ListN.{length, set, take, drop, length-drop, take-append-drop}
-use lib.Seq.{take_at, drop_at, take-add, drop-drop, length-take-le}
 use Rattle.rows.specs.Rows.{Row, row, Shape}
 use Rattle.store.specs.declared.layout.Layout.{Layout}
 use Rattle.store.specs.Store.{cut, rows_of, words_of, marks_of, nth_row, Fit}

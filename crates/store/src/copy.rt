@@ -5,7 +5,7 @@ ghost use Rattle.store.specs.Parts.{part_copied};
 
 use crate::layout::Layout;
 
-// `count` elements from place `from` on are copied to place `to` on. In two parts, which the compiler makes one memcpy: the
+// `count` elements from place `from` on are copied to place `to` on. In two parts, which the compiler makes one memmove: the
 // slice's own copy_within goes backwards, element by element, and takes a fifth longer.
 fn copy_part<T: Copy>(all: &mut [T], from: usize, to: usize, count: usize)
     requires apart { from + count ≤ to }

@@ -6,11 +6,10 @@ use Rattle.counting.proofs.counter.counter.Goals.{then-flags-r, else-flags-r}
 pub loop-r-preserved : goal.loop-r-preserved
 loop-r-preserved c =
     record {
-      within = omega arith;
       left =
           elim c.if-flags-r.branch [
-            | then-flags-r w ↦ count_taken c.requires.fit _ c.requires.a_flag_each _ _ _ _ _ c.loop-r-test.true _ w.n-is w.if-flags-r.true c.loop-r.invariant.left w.hits-n.ensures.value
-            | else-flags-r w ↦ count_passed c.requires.fit _ c.requires.a_flag_each _ _ _ _ _ c.loop-r-test.true w.n-is w.if-flags-r.false c.loop-r.invariant.left
+            | then-flags-r w ↦ count_taken c.requires.fit _ c.requires.a_flag_each _ _ _ _ _ (omega arith) _ w.n-is w.if-flags-r.true c.loop-r.invariant.left w.hits-n.ensures.value
+            | else-flags-r w ↦ count_passed c.requires.fit _ c.requires.a_flag_each _ _ _ _ _ (omega arith) w.n-is w.if-flags-r.false c.loop-r.invariant.left
           ];
       few = elim c.if-flags-r.branch [ then-flags-r w ↦ omega arith | else-flags-r w ↦ omega arith ];
     }

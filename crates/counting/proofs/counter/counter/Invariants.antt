@@ -1,4 +1,4 @@
-use Rattle.std.proofs.Common.{◌≡◌, ◌+◌, ◌-◌, ◌*◌, ◌≤◌}
+use Rattle.std.proofs.Common.{◌≡◌, ◌+◌, ◌*◌, ◌≤◌}
 use Rattle.store.specs.Store.{rows_of}
 use Rattle.counting.specs.Cells.{address_of}
 use Rattle.counting.specs.Counters.{counter_in, taking}
@@ -9,11 +9,4 @@ abbrev pub invariant-loop-r : goal.invariant-loop-r
 invariant-loop-r l =
     let rows = rows_of l.store l.words l.marks in
     let a = address_of l.cell l.byte in
-    record {
-      within : l.r ≤ l.store.rows;
-      left : l.n + count_from l.r l.flags rows a ≡ counter_in (taking l.flags rows) a;
-      few : l.n ≤ 8 * l.r;
-    }
-
-abbrev pub decreases-loop-r : goal.decreases-loop-r
-decreases-loop-r l = l.store.rows - l.r
+    record { left : l.n + count_from l.r l.flags rows a ≡ counter_in (taking l.flags rows) a; few : l.n ≤ 8 * l.r }
