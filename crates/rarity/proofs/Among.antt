@@ -1,13 +1,6 @@
 -- The rows that take part, at most all rows, and where all flags are set just these; and the scores of rows among them.
-use mathlib.Core.Path.{◌≡◌, refl, ap, ◌∙◌}
-use mathlib.Core.Bool.{Bool, true, false, cond}
-use mathlib.Core.List.{List, [], ◌∷◌, map}
-use Prim.Native.Nat.{ℕ, zero, suc, ◌≤◌, ◌<◌}
-use native.Mathlib.Nat.{le_of_suc-le-suc, not-suc-le-zero}
-use native.Mathlib.Omega.{arith}
-use lib.Dec.{lit≤}
-use lib.Ieee.{Float, nan}
-use lib.ListN.{length, get_or, replicate}
+use Rattle.std.proofs.Common.{◌≡◌, refl, ap, ◌∙◌, Bool, true, false, cond, List, [], ◌∷◌, map, ℕ, zero, suc, ◌≤◌, ◌<◌, le_of_suc-le-suc, not-suc-le-zero, arith, lit≤, Float, length, get_or, replicate}
+use lib.Ieee.{nan}
 use Rattle.rows.specs.Rows.{Row}
 use Rattle.store.specs.Store.{nth_row}
 use Rattle.means.specs.declared.MeanType.{MeanType}

@@ -1,14 +1,9 @@
 -- The bound of document 01 for the scores of states: whatever the rows, the score of one of them is near its exact mean.
-use mathlib.Core.List.{List, [], ◌∷◌, map, Memᴰ}
-use mathlib.Core.Path.{◌≡◌, refl}
-use mathlib.Core.Bool.{Bool, true, false}
-use Prim.Native.Nat.{ℕ, ◌*◌, ◌≤◌}
-use native.Mathlib.Nat.{le_refl}
-use native.Mathlib.Omega.{arith}
-use lib.Dec.{T}
-use lib.Ieee.{Float, le}
+use Rattle.std.proofs.Common.{List, [], ◌∷◌, map, ◌≡◌, refl, Bool, true, false, ℕ, ◌*◌, ◌≤◌, le_refl, arith, T, Float, length}
+use mathlib.Core.List.{Memᴰ}
+use lib.Ieee.{le}
 use lib.Ieee.Positive.{num, den, positive, cross→le}
-use lib.ListN.{length, length-map}
+use Rattle.std.proofs.Math.ListN.{length-map}
 use Rattle.rows.specs.Rows.{Row}
 use Rattle.rows.specs.Limits.{most_rows}
 use Rattle.store.specs.Store.{most_marks}

@@ -1,14 +1,7 @@
 -- One turn of each loop of this crate.
-use mathlib.Core.Path.{◌≡◌, sym, ap, ◌∙◌, subst}
-use mathlib.Core.Bool.{Bool, true, false, cond}
-use mathlib.Core.List.{List, [], ◌∷◌, ◌++◌, map, map-append, append_assoc, append-nil}
-use Prim.Native.Nat.{ℕ, zero, suc, ◌+◌, ◌-◌, ◌*◌, ◌≤◌, ◌<◌}
-use native.Mathlib.Numerals.{add-one}
-use native.Mathlib.Omega.{arith}
-use lib.Dec.{ltb, lit≤}
-use lib.ListN.{length, get_or, set, take, drop, drop_of_length-le, length-set}
-use lib.Seq.{take-suc, take-suc-set, take_all, drop-cons}
-use lib.Ieee.{Float, le, nan}
+use Rattle.std.proofs.Common.{◌≡◌, sym, ap, ◌∙◌, subst, Bool, true, false, cond, List, [], ◌∷◌, ◌++◌, map, append_assoc, append-nil, ℕ, zero, suc, ◌+◌, ◌-◌, ◌*◌, ◌≤◌, ◌<◌, add-one, arith, ltb, lit≤, length, get_or, set, take, length-set, take-suc, take-suc-set, take_all, Float}
+use mathlib.Core.List.{map-append}
+use lib.Ieee.{nan}
 use Rattle.values.specs.declared.Value.{Value}
 use Rattle.values.specs.declared.Value.TheVariants.{Concrete, Uninitialized}
 use Rattle.rows.specs.Rows.{Row}
@@ -24,7 +17,7 @@ use Rattle.counting.specs.Cells.{first_register_cell, first_memory_cell, place_a
 use Rattle.counting.specs.Counters.{highest_counter, counter_in, counters_of, taking}
 use Rattle.rarity.proofs.Among.{score_at, scores_length}
 use Rattle.rarity.specs.Taken.{Taken}
-use Rattle.rarity.specs.Scores.{score, flagged_scores, are_ordered}
+use Rattle.rarity.specs.Scores.{score, flagged_scores}
 
 -- one counter more keeps a tally small
 pub within_more : {n m c : ℕ} {t u : Tally} → Within n t → c ≤ highest_counter → u ≡ with_counter t c → n < m → Within m u
@@ -139,17 +132,3 @@ module _ {m : MeanType} {flags : List Bool} {rows : List Row} {n r : ℕ} {score
   scores_end l =
       let e = scores_length m (taking flags rows) flags rows a b in
       sym (take_all r scores (omega (arith, h.same))) ∙ h.first ∙ take_all r (flagged_scores m flags rows) (omega arith)
-
--- the scores from i on
-pub ordered_turn : (ss : List Float) (i : ℕ) → i < length ss → le (get_or ss i nan) (get_or ss i nan) ≡ true
-    → are_ordered (drop (i + 1) ss) ≡ are_ordered (drop i ss)
-unfolding are_ordered
-ordered_turn ss i h e = rw (add-one, drop-cons ss i nan h, e)
-
-pub ordered_not : (ss : List Float) (i : ℕ) → i < length ss → le (get_or ss i nan) (get_or ss i nan) ≡ false → false ≡ are_ordered (drop i ss)
-unfolding are_ordered
-ordered_not ss i h e = rw (drop-cons ss i nan h, e)
-
-pub ordered_end : (ss : List Float) (i : ℕ) → length ss ≤ i → are_ordered (drop i ss) ≡ are_ordered ss → true ≡ are_ordered ss
-unfolding are_ordered
-ordered_end ss i h e = rw (drop_of_length-le ss h) at e

@@ -34,12 +34,10 @@ fn tally_word(
 {
     let base = base_of(place);
     let mut t = so_far;
-    let mut b = 0;
-    while b < BYTES {
+    for b in 0..BYTES {
         let byte = byte_of(x, b);
         let cell = base + 8 * (b as usize);
         t = t.add(counter(words, marks, store, flags, cell, byte));
-        b += 1;
     }
     t
 }
@@ -69,13 +67,11 @@ fn tally_row(words: &[u64], marks: &[u8], store: Layout, flags: &[bool], r: usiz
     ensures small { Within most_counters result }
 {
     let mut t = Tally::new();
-    let mut place = 0;
-    while place <= store.marks {
+    for place in 0..=store.marks {
         let value = value_at(words, marks, store, r, place);
         if let Value::Concrete(x) = value {
             t = tally_word(words, marks, store, flags, t, place, x);
         }
-        place += 1;
     }
     t
 }
@@ -113,27 +109,18 @@ pub fn score_rows(
     requires a_score_each { length scores.old ≡ store.rows }
     ensures { scores.new ≡ flagged_scores mean flags.now (rows_of store words.now marks.now) }
 {
-    let mut r = 0;
-    while r < store.rows {
-        if flags[r] {
-            scores[r] = score_row(words, marks, store, flags, mean, r);
+    for r in 0..store.rows {
+        scores[r] = if flags[r] {
+            score_row(words, marks, store, flags, mean, r)
         } else {
-            scores[r] = 0.0;
-        }
-        r += 1;
+            0.0
+        };
     }
 }
 
-// Whether all scores can be ordered.
+// Whether all scores can be ordered: one that cannot be is not even at most itself.
 pub fn are_ordered(scores: &[f64]) -> bool
     ensures { result ≡ are_ordered scores.now }
 {
-    let mut i = 0;
-    while i < scores.len() {
-        if !(scores[i] <= scores[i]) {
-            return false;
-        }
-        i += 1;
-    }
-    true
+    scores.iter().all(|s| *s <= *s)
 }

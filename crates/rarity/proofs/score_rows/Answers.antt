@@ -1,4 +1,4 @@
-use Rattle.std.proofs.Common.{◌≡◌, refl, arith}
+use Rattle.std.proofs.Common.{◌≡◌, refl, ap, set}
 use Rattle.std.specs.Float.Ieee.{of_bits, binary64, of_int}
 use Rattle.means.specs.Means.{whole}
 use Rattle.store.proofs.Rows.{length_rows}
@@ -16,11 +16,10 @@ loop-r-preserved c =
     let h = c.loop-r.invariant.written in
     let l = c.loop-r-test.true in
     record {
-      within = omega arith;
       written =
           elim c.if-flags-r.branch [
-            | then-flags-r w ↦ score_taking a (length_rows _ _ _ _ _) h l w.if-flags-r.true w.score_row.ensures w.scores-is
-            | else-flags-r w ↦ score_zero a (length_rows _ _ _ _ _) h l w.if-flags-r.false float_zero w.scores-is
+            | then-flags-r w ↦ score_taking a (length_rows _ _ _ _ _) h l w.if-flags-r.true w.score_row.ensures (ap (set _ _) w.scores-is)
+            | else-flags-r w ↦ score_zero a (length_rows _ _ _ _ _) h l w.if-flags-r.false float_zero (ap (set _ _) w.scores-is)
           ];
     }
 

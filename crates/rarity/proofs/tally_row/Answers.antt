@@ -4,14 +4,13 @@ use Rattle.rarity.proofs.tally_row.Goals as goal
 use Rattle.rarity.proofs.tally_row.Goals.{in-Concrete, in_default}
 
 pub loop-place-init : goal.loop-place-init
-loop-place-init c = record { within = omega arith; counted = places_none c.new-t.ensures }
+loop-place-init c = record { counted = places_none c.new-t.ensures }
 
 pub loop-place-preserved : goal.loop-place-preserved
 loop-place-preserved c =
     let d = c.value_at-value.ensures in
     let h = c.loop-place.invariant.counted in
     record {
-      within = omega arith;
       counted =
           elim c.match-value.branch [
             | in-Concrete w ↦ place_turn d h _ w.in-Concrete.is w.tally_word-t.ensures.taken w.tally_word-t.ensures.small w.t-is
@@ -19,7 +18,14 @@ loop-place-preserved c =
           ];
     }
 
-pub returns-clause-value : goal.returns-clause-value
-returns-clause-value c =
+-- the last place
+pub returns-after-value-clause-value : goal.returns-after-value-clause-value
+returns-after-value-clause-value c =
+    let d = c.value_at-value.ensures in
+    let h = c.loop-place.invariant.counted in
     let n = marks_in_row c.requires.fit c.args.r c.requires.row in
-    (places_end c.loop-place.invariant.counted (omega (arith, n)) (omega (arith, n))).0
+    elim c.match-value.branch [
+      | in-Concrete w ↦
+          (places_end (place_turn d h _ w.in-Concrete.is w.tally_word-t.ensures.taken w.tally_word-t.ensures.small w.t-is) (omega (arith, n)) (omega (arith, n))).0
+      | in_default w ↦ (places_end (place_skip d h w.in_default.is w.t-is) (omega (arith, n)) (omega (arith, n))).0
+    ]

@@ -1,4 +1,3 @@
-use Rattle.std.proofs.Common.{◌+◌, ◌-◌, ◌≤◌}
 use Rattle.store.specs.Store.{rows_of, nth_row}
 use Rattle.counting.specs.Counters.{taking}
 use Rattle.rarity.proofs.Turns.{Upto}
@@ -7,9 +6,5 @@ use Rattle.rarity.proofs.tally_row.Given as goal
 abbrev pub invariant-loop-place : goal.invariant-loop-place
 invariant-loop-place l =
     record {
-      within : l.place ≤ l.store.marks + 1;
       counted : Upto (taking l.flags (rows_of l.store l.words l.marks)) (nth_row (rows_of l.store l.words l.marks) l.r) l.place l.t;
     }
-
-abbrev pub decreases-loop-place : goal.decreases-loop-place
-decreases-loop-place l = l.store.marks + 1 - l.place

@@ -1,4 +1,4 @@
-use Rattle.std.proofs.Common.{◌+◌, ◌*◌, ◌-◌, ◌≤◌}
+use Rattle.std.proofs.Common.{◌+◌, ◌*◌}
 use Rattle.store.specs.Store.{rows_of}
 use Rattle.means.specs.Tallies.{Within}
 use Rattle.counting.specs.Cells.{byte_addresses}
@@ -9,10 +9,6 @@ use Rattle.rarity.proofs.tally_word.Given as goal
 abbrev pub invariant-loop-b : goal.invariant-loop-b
 invariant-loop-b l =
     record {
-      within : l.b ≤ 8;
       taken : Taken (taking l.flags (rows_of l.store l.words l.marks)) l.initial.t (byte_addresses l.place l.x l.b) l.t;
       small : Within (8 * l.place + l.b) l.t;
     }
-
-abbrev pub decreases-loop-b : goal.decreases-loop-b
-decreases-loop-b l = 8 - l.b
