@@ -1,12 +1,7 @@
 -- The numbers that are kept are numbers of rows, each once.
-use mathlib.Core.Bool.{Bool, true, false}
-use mathlib.Core.List.{List, [], ◌∷◌, ◌++◌}
-use mathlib.Core.Path.{◌≡◌, sym, ap, ◌∙◌}
-use Prim.Native.Nat.{ℕ, suc, ◌+◌, ◌≤◌, ◌<◌}
-use native.Mathlib.Omega.{arith}
-use lib.Ieee.{Float, nan}
-use lib.ListN.{length, get_or, take, length-map}
-use lib.Seq.{get_or-take}
+use Rattle.std.proofs.Common.{Bool, true, false, List, [], ◌∷◌, ◌++◌, ◌≡◌, sym, ap, ◌∙◌, ℕ, suc, ◌+◌, ◌≤◌, ◌<◌, arith, Float, length, get_or}
+use lib.Ieee.{nan}
+use Rattle.std.proofs.Math.ListN.{length-map}
 use Rattle.laws.proofs.Lists.{map_get}
 use Rattle.rounds.specs.Selection.{rarest}
 use Rattle.rounds.specs.Demand.{Permutation, All, nil, cons}
@@ -53,8 +48,7 @@ candidates_apart i (s ∷ scores) (true ∷ flags) =
     pairs (all_with (after i n s) (candidates_between (suc i) n scores flags (omega arith))) (candidates_apart (suc i) scores flags)
 candidates_apart i (s ∷ scores) (false ∷ flags) = candidates_apart (suc i) scores flags
 
-module _ (k : ℕ) (scores : List Float) (flags : List Bool) (order : List ℕ) {kept : ℕ} (many : kept ≡ length (kept_numbers k scores flags))
-    (same : take kept order ≡ kept_numbers k scores flags) where
+module _ (k : ℕ) (scores : List Float) (flags : List Bool) {order : List ℕ} (same : order ≡ kept_numbers k scores flags) where
   abbrev chosen : List ScoredRow
   chosen = (rarest lower_score k (candidates 0 scores flags)).kept
 
@@ -67,26 +61,26 @@ module _ (k : ℕ) (scores : List Float) (flags : List Bool) (order : List ℕ) 
   abbrev no_row : ScoredRow
   no_row = record { row = 0; score = nan }
 
-  short : kept ≡ length chosen
+  short : length order ≡ length chosen
   unfolding kept_numbers
-  short = many ∙ length-map chosen number_of
+  short = ap (λ (l : List ℕ). length l) same ∙ length-map chosen number_of
 
-  entry : (j : ℕ) → j < kept → get_or order j 0 ≡ (get_or chosen j no_row).row
+  entry : (j : ℕ) → j < length order → get_or order j 0 ≡ (get_or chosen j no_row).row
   unfolding kept_numbers
-  entry j h = sym (get_or-take kept order j 0 h) ∙ ap (λ (l : List ℕ). get_or l j 0) same ∙ map_get number_of chosen j no_row 0 (omega (arith, short))
+  entry j h = ap (λ (l : List ℕ). get_or l j 0) same ∙ map_get number_of chosen j no_row 0 (omega (arith, short))
 
-  pub numbers : {n : ℕ} → length scores ≡ n → n ≤ length order → Numbers n kept order
-  numbers {n} e room =
-      let f : kept ≤ n = omega (arith, short, rarest_as_many lower_score k (candidates 0 scores flags), candidates_few 0 scores flags) in
-      record { many = omega arith; few = f; within = λ j h. in_rows j h; apart = λ a b h l q. two a b h l q }
+  pub numbers : {n : ℕ} → length scores ≡ n → Numbers n order
+  numbers {n} e =
+      let f : length order ≤ n = omega (arith, short, rarest_as_many lower_score k (candidates 0 scores flags), candidates_few 0 scores flags) in
+      record { few = f; within = λ j h. in_rows j h; apart = λ a b h l q. two a b h l q }
     where
-      in_rows : (j : ℕ) → j < kept → get_or order j 0 < n
+      in_rows : (j : ℕ) → j < length order → get_or order j 0 < n
       in_rows j h =
           let a = all_left chosen passed (all_permuted once (candidates_between 0 n scores flags (omega arith))) in
           let b = all_at chosen j no_row (omega (arith, short)) a in
           omega (arith, b.high, entry j h)
 
-      two : (a b : ℕ) → a < b → b < kept → get_or order a 0 ≡ get_or order b 0 → ⊥
+      two : (a b : ℕ) → a < b → b < length order → get_or order a 0 ≡ get_or order b 0 → ⊥
       two a b h l q =
           let p = pairs_left chosen passed (pairs_permuted apart_flip once (candidates_apart 0 scores flags)) in
           pairs_at chosen a b no_row h (omega (arith, short)) p (sym (entry a (omega arith)) ∙ q ∙ entry b l)

@@ -1,8 +1,5 @@
 -- A relation between each element of a list and each later one, in any order of them.
-use mathlib.Core.List.{List, [], ◌∷◌, ◌++◌}
-use Prim.Native.Nat.{ℕ, zero, suc, ◌<◌}
-use native.Mathlib.Nat.{not-suc-le-zero, le_of_suc-le-suc}
-use lib.ListN.{length, get_or}
+use Rattle.std.proofs.Common.{List, [], ◌∷◌, ◌++◌, ℕ, zero, suc, ◌<◌, not-suc-le-zero, le_of_suc-le-suc, length, get_or}
 use Rattle.rounds.specs.Demand.{Inserted, here, there, Permutation, none, one, All, cons}
 use Rattle.rounds.proofs.Lists.{all_inserted, all_permuted, all_left, all_at}
 

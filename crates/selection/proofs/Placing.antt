@@ -1,20 +1,10 @@
 -- Two rows that change places, in the rows and in the two lists of where each row is; and the loop of them.
-use mathlib.Core.Bool.{Bool, true, false}
-use mathlib.Core.List.{List, [], ◌++◌}
-use mathlib.Core.Path.{◌≡◌, refl, sym, ap, ◌∙◌, subst}
-use Prim.Native.Nat.{ℕ, ◌+◌, ◌-◌, ◌≤◌, ◌<◌}
-use native.Mathlib.Nat.{lt_of_lt_of_le, not-suc-le-zero}
-use native.Mathlib.Omega.{arith}
-use borrow.Author.Count.{below_more}
-use borrow.Author.Tests.{eqb-true, eqb-false, ltb-true, ltb-false}
-use lib.Dec.{eqb, ltb}
-use lib.ListN.{length, get_or, take, set, replicate, length-set, length-map}
-use lib.Seq.{get_or-set_same, get_or-set_other, get_or-take, ext_get_or, length-take-le}
+use Rattle.std.proofs.Common.{Bool, true, false, List, [], ◌≡◌, refl, sym, ap, ◌∙◌, subst, ℕ, ◌+◌, ◌≤◌, ◌<◌, lt_of_lt_of_le, not-suc-le-zero, arith, below_more, eqb-true, ltb-true, ltb-false, eqb, ltb, length, get_or, take, set, length-set, get_or-set_same, get_or-set_other, get_or-take, ext_get_or, length-take-le}
+use borrow.Author.Tests.{eqb-false}
+use Rattle.std.proofs.Math.ListN.{length-map}
 use Rattle.laws.proofs.Lists.{map_get}
 use Rattle.rows.specs.Rows.{Row, row}
-use Rattle.store.specs.declared.layout.Layout.{Layout}
-use Rattle.store.specs.Store.{nth_row, zero_row, rows_swapped}
-use Rattle.rounds.specs.Rounds.{stored}
+use Rattle.store.specs.Store.{nth_row, rows_swapped}
 use Rattle.selection.specs.Places.{Numbers, Own, rows_numbered}
 
 -- `place_of` says where each of n rows is, `row_at` which row is where: `rows` are those of `start`, moved so
@@ -58,6 +48,9 @@ module _ {A : Type 0} (l : List A) (a b : ℕ) (x y d : A) where
 
   at_other : (k : ℕ) → (k ≡ b → ⊥) → (k ≡ a → ⊥) → get_or both k d ≡ get_or l k d
   at_other k n m = get_or-set_other (set l a x) b k y d n ∙ get_or-set_other l a k x d m
+
+own_fewer : {n m : ℕ} {places : List ℕ} → Own m places → n ≤ m → Own n places
+own_fewer o h = record { room = omega (arith, o.room); own = λ k l. o.own k (lt_of_lt_of_le l h) }
 
 mapped_own : (n : ℕ) (place_of row_at : List ℕ) (rows : List Row) → Own n place_of → Own n row_at → Mapped n place_of row_at rows rows
 mapped_own n place_of row_at rows a b =
@@ -179,35 +172,33 @@ module _ {n : ℕ} {place_of row_at : List ℕ} {start rows : List Row} (M : Map
 
 -- ---- the loop
 
-pub record Placing (n kept : ℕ) (order place_of row_at : List ℕ) (start rows : List Row) (place : ℕ) : Type 0 where
-  pub upto : place ≤ kept
+pub record Placing (n : ℕ) (order place_of row_at : List ℕ) (start rows : List Row) (place : ℕ) : Type 0 where
   pub all : length rows ≡ n
   pub mapped : Mapped n place_of row_at start rows
   pub done : (j : ℕ) → j < place → get_or row_at j 0 ≡ get_or order j 0
 
-pub place_starts : (n kept : ℕ) (order place_of row_at : List ℕ) (rows : List Row) → length rows ≡ n
-    → Own n place_of → Own n row_at → Placing n kept order place_of row_at rows rows 0
-place_starts n kept order place_of row_at rows all a b =
-    record { upto = omega arith; all = all; mapped = mapped_own n place_of row_at rows a b; done = λ j h. absurd (not-suc-le-zero h) }
+pub place_starts : {n m : ℕ} (order : List ℕ) {place_of row_at : List ℕ} {rows : List Row} → n ≤ m → length rows ≡ n → Own m place_of → Own m row_at
+    → Placing n order place_of row_at rows rows 0
+place_starts order l all a b =
+    record { all = all; mapped = mapped_own _ _ _ _ (own_fewer a l) (own_fewer b l); done = λ j h. absurd (not-suc-le-zero h) }
 
 -- what a turn may do, and what it leaves
-pub record Next (n kept : ℕ) (order place_of row_at : List ℕ) (start rows : List Row) (place : ℕ) : Type 0 where
-  pub incoming_in : get_or order place 0 < length place_of
-  pub place_in : place < length row_at
-  pub from_in : get_or place_of (get_or order place 0) 0 < length row_at
-  pub displaced_in : get_or row_at place 0 < length place_of
-  pub row_in : get_or place_of (get_or order place 0) 0 < n
+pub record Next (n : ℕ) (order place_of row_at : List ℕ) (start rows : List Row) (place : ℕ) : Type 0 where
+  pub incoming_in : get_or order place 0 < n
+  pub place_in : place < n
+  pub from_in : get_or place_of (get_or order place 0) 0 < n
+  pub displaced_in : get_or row_at place 0 < n
   -- the next row is not among those that are placed
   pub ahead : place ≤ get_or place_of (get_or order place 0) 0
   pub next : (place_of' row_at' : List ℕ) (rows' : List Row)
       → place_of' ≡ set (set place_of (get_or row_at place 0) (get_or place_of (get_or order place 0) 0)) (get_or order place 0) place
       → row_at' ≡ set (set row_at (get_or place_of (get_or order place 0) 0) (get_or row_at place 0)) place (get_or order place 0)
       → rows' ≡ rows_swapped place (get_or place_of (get_or order place 0) 0) rows
-      → Placing n kept order place_of' row_at' start rows' (place + 1)
+      → Placing n order place_of' row_at' start rows' (place + 1)
 
-module _ {n kept : ℕ} {order place_of row_at : List ℕ} {start rows : List Row} {place : ℕ} (N : Numbers n kept order)
-    (S : Placing n kept order place_of row_at start rows place) where
-  module _ (h : place < kept) where
+module _ {n : ℕ} {order place_of row_at : List ℕ} {start rows : List Row} {place : ℕ} (N : Numbers n order)
+    (S : Placing n order place_of row_at start rows place) where
+  module _ (h : place < length order) where
     abbrev incoming : ℕ
     incoming = get_or order place 0
 
@@ -229,10 +220,9 @@ module _ {n kept : ℕ} {order place_of row_at : List ℕ} {start rows : List Ro
     turned : (place_of' row_at' : List ℕ) (rows' : List Row)
         → place_of' ≡ set (set place_of (get_or row_at place 0) (get_or place_of incoming 0)) incoming place
         → row_at' ≡ set (set row_at (get_or place_of incoming 0) (get_or row_at place 0)) place incoming
-        → rows' ≡ rows_swapped place (get_or place_of incoming 0) rows → Placing n kept order place_of' row_at' start rows' (place + 1)
+        → rows' ≡ rows_swapped place (get_or place_of incoming 0) rows → Placing n order place_of' row_at' start rows' (place + 1)
     turned place_of' row_at' rows' ea ew er =
         record {
-          upto = omega arith;
           all = rw er (simp length-set S.all);
           mapped = rw (er, ew, ea) (exchanged S.mapped S.all place incoming h_place h_incoming);
           done =
@@ -244,53 +234,24 @@ module _ {n kept : ℕ} {order place_of row_at : List ℕ} {start rows : List Ro
               (ap (λ (z : List ℕ). get_or z place 0) ew ∙ row_at_first S.mapped S.all place incoming h_place h_incoming place refl);
         }
 
-    pub place_turn : Next n kept order place_of row_at start rows place
+    pub place_turn : Next n order place_of row_at start rows place
     place_turn =
         record {
-          incoming_in = lt_of_lt_of_le h_incoming S.mapped.place_of_all;
-          place_in = lt_of_lt_of_le h_place S.mapped.row_at_all;
-          from_in = lt_of_lt_of_le (S.mapped.place_of_in incoming h_incoming) S.mapped.row_at_all;
-          displaced_in = lt_of_lt_of_le (S.mapped.row_at_in place h_place) S.mapped.place_of_all;
-          row_in = S.mapped.place_of_in incoming h_incoming;
+          incoming_in = h_incoming;
+          place_in = h_place;
+          from_in = S.mapped.place_of_in incoming h_incoming;
+          displaced_in = S.mapped.row_at_in place h_place;
           ahead = not_placed;
           next = turned;
         }
 
-  pub placed : kept ≤ place → take kept rows ≡ rows_numbered kept order start
+  pub placed : length order ≤ place → take (length order) rows ≡ rows_numbered order start
   placed h =
-      let la : length (take kept rows) ≡ kept = length-take-le kept rows (omega (arith, N.few, S.all)) in
-      let lb : length (take kept order) ≡ kept = length-take-le kept order N.many in
-      ext_get_or (row [] []) (take kept rows) (rows_numbered kept order start) (la ∙ sym lb ∙ sym (length-map (take kept order) (nth_row start)))
+      let la : length (take (length order) rows) ≡ length order = length-take-le (length order) rows (omega (arith, N.few, S.all)) in
+      ext_get_or (row [] []) (take (length order) rows) (rows_numbered order start) (la ∙ sym (length-map order (nth_row start)))
       (λ j l.
-      let jk : j < kept = omega (arith, la) in
-      let jo : j < length (take kept order) = omega (arith, lb) in
-      get_or-take kept rows j (row [] []) jk
+      let jo : j < length order = omega (arith, la) in
+      get_or-take (length order) rows j (row [] []) jo
       ∙ S.mapped.moved j (omega (arith, N.few))
-      ∙ ap (λ (k : ℕ). nth_row start k) (S.done j (omega arith) ∙ sym (get_or-take kept order j 0 jk))
-      ∙ sym (map_get (nth_row start) (take kept order) j 0 (row [] []) jo))
-
--- with the rest zeroed
-pub placed_stored : (s : Layout) {kept : ℕ} (start front : List Row) (order : List ℕ) → kept ≤ length order → front ≡ rows_numbered kept order start
-    → front ++ replicate (s.rows - kept) (zero_row s) ≡ stored s (rows_numbered kept order start)
-placed_stored s {kept} start front order h e =
-    let rows = rows_numbered kept order start in
-    let l : length rows ≡ kept = length-map (take kept order) (nth_row start) ∙ length-take-le kept order h in
-    ap (λ (z : List Row). z ++ replicate (s.rows - kept) (zero_row s)) e ∙ ap (λ (k : ℕ). rows ++ replicate (s.rows - k) (zero_row s)) (sym l)
-
--- ---- every place its own number
-
-pub own_none : (places : List ℕ) → Own 0 places
-own_none places = record { room = omega arith; own = λ k h. absurd (not-suc-le-zero h) }
-
-pub own_turn : (places : List ℕ) (place : ℕ) → place < length places → Own place places → Own (place + 1) (set places place place)
-own_turn places place h o =
-    record {
-      room = simp length-set (omega arith);
-      own =
-          below_more (λ (k : ℕ). get_or (set places place place) k 0 ≡ k) place
-          (λ k l. get_or-set_other places place k place 0 (less_not l) ∙ o.own k l)
-          (get_or-set_same places place place 0 h);
-    }
-
-pub own_fewer : {n m : ℕ} {places : List ℕ} → Own m places → n ≤ m → Own n places
-own_fewer o h = record { room = omega (arith, o.room); own = λ k l. o.own k (lt_of_lt_of_le l h) }
+      ∙ ap (λ (k : ℕ). nth_row start k) (S.done j (omega arith))
+      ∙ sym (map_get (nth_row start) order j 0 (row [] []) jo))

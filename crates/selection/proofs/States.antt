@@ -1,10 +1,6 @@
 -- The selection by numbers is the selection of states: what the search's round needs.
-use mathlib.Core.Bool.{Bool, true, false}
-use mathlib.Core.List.{List, [], ◌∷◌, map}
-use mathlib.Core.Path.{◌≡◌, refl, sym, ap, ◌∙◌}
-use Prim.Native.Nat.{ℕ, suc, ◌+◌}
-use native.Mathlib.Omega.{arith}
-use lib.ListN.{length, length-map}
+use Rattle.std.proofs.Common.{Bool, true, false, List, [], ◌∷◌, map, ◌≡◌, refl, sym, ap, ◌∙◌, ℕ, suc, ◌+◌, arith, length}
+use Rattle.std.proofs.Math.ListN.{length-map}
 use Rattle.rows.specs.Rows.{Row}
 use Rattle.store.specs.Store.{nth_row}
 use Rattle.counting.specs.Counters.{taking}

@@ -1,18 +1,17 @@
 -- A stepping stone between contracts: the rows that are to come first, by their numbers.
-use Rattle.std.specs.Prelude.{List, map, ◌≡◌, ℕ, ◌<◌, ◌≤◌, length, get_or, take}
+use Rattle.std.specs.Prelude.{List, map, ◌≡◌, ℕ, ◌<◌, ◌≤◌, length, get_or}
 use Rattle.rows.specs.Rows.{Row}
 use Rattle.store.specs.Store.{nth_row}
 
--- the first `kept` of `order` are numbers of n rows, each once
-pub record Numbers (n kept : ℕ) (order : List ℕ) : Type 0 where
-  pub many : kept ≤ length order
-  pub few : kept ≤ n
-  pub within : (j : ℕ) → j < kept → get_or order j 0 < n
-  pub apart : (a b : ℕ) → a < b → b < kept → get_or order a 0 ≡ get_or order b 0 → ⊥
+-- numbers of n rows, each once
+pub record Numbers (n : ℕ) (order : List ℕ) : Type 0 where
+  pub few : length order ≤ n
+  pub within : (j : ℕ) → j < length order → get_or order j 0 < n
+  pub apart : (a b : ℕ) → a < b → b < length order → get_or order a 0 ≡ get_or order b 0 → ⊥
 
 -- the rows whose numbers these are
-abbrev pub rows_numbered : ℕ → List ℕ → List Row → List Row
-rows_numbered kept order rows = map (nth_row rows) (take kept order)
+abbrev pub rows_numbered : List ℕ → List Row → List Row
+rows_numbered order rows = map (nth_row rows) order
 
 -- each of the first n places has its own number
 pub record Own (n : ℕ) (places : List ℕ) : Type 0 where

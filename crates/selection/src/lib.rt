@@ -10,7 +10,6 @@ ghost use Rattle.selection.specs.Selecting.{kept_numbers, kept_rows};
 pub mod order;
 pub mod places;
 
-use rows::limits::MOST_ROWS;
 use store::layout::Layout;
 
 // Keeps the rows whose flag is set with the lowest scores, at most `selection` of them, in rising order, equals in row order.
@@ -30,8 +29,7 @@ pub fn select_rarest(
     ensures rows { rows_of store words.new marks.new
         ≡ stored store (kept_rows selection scores.now flags.now (rows_of store words.old marks.old)) }
 {
-    let mut order = [0usize; MOST_ROWS];
-    let kept = order::order_of(scores, flags, &mut order, selection);
-    places::move_kept(words, marks, store, &order, kept);
-    kept
+    let order = order::order_of(scores, flags, selection);
+    places::move_kept(words, marks, store, order.as_slice());
+    order.len()
 }

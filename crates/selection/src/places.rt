@@ -1,108 +1,77 @@
 // The order carried out on the rows, by at most one exchange of two rows for each that is kept.
-ghost use Rattle.std.specs.Prelude.{◌≡◌, ◌<◌, length, take, set};
+ghost use Rattle.std.specs.Prelude.{◌≡◌, ◌<◌, length, take, set, get_or};
+ghost use Rattle.rows.specs.Limits.{most_rows};
 ghost use Rattle.store.specs.Store.{Fit, rows_of};
 ghost use Rattle.rounds.specs.Rounds.{stored};
 ghost use Rattle.selection.specs.Places.{Numbers, Own, rows_numbered};
 
 use rows::limits::MOST_ROWS;
+use std::array;
 use store::layout::Layout;
+use store::swap::swap_rows;
+use store::zero::zero_rows;
 
-// Every place gets its own number.
-fn own_places(places: &mut [usize])
-    ensures { Own (length places.old) places.new }
-{
-    let mut place = 0;
-    while place < places.len() {
-        places[place] = place;
-        place += 1;
+// Where each row is, and which row is at each place.
+#[derive(Drop)]
+struct Places {
+    place_of_row: [usize; MOST_ROWS],
+    row_at_place: [usize; MOST_ROWS],
+}
+
+impl Places {
+    // Every row at the place of its own number.
+    fn new() -> Places
+        ensures places { Own most_rows result.place_of_row }
+        ensures rows { Own most_rows result.row_at_place }
+    {
+        let own = array::from_fn(|place| place);
+        Places {
+            place_of_row: own,
+            row_at_place: own,
+        }
+    }
+
+    // Row `incoming` comes to `place`, and the row that is there goes where `incoming` was, which is answered.
+    fn exchange(&mut self, place: usize, incoming: usize) -> usize
+        requires place { place < most_rows }
+        requires incoming { incoming < most_rows }
+        requires from { get_or self.old.place_of_row incoming 0 < most_rows }
+        requires displaced { get_or self.old.row_at_place place 0 < most_rows }
+        ensures from { result ≡ get_or self.old.place_of_row incoming 0 }
+        ensures places { self.new.place_of_row ≡ set (set self.old.place_of_row (get_or self.old.row_at_place place 0) result) incoming place }
+        ensures rows { self.new.row_at_place ≡ set (set self.old.row_at_place result (get_or self.old.row_at_place place 0)) place incoming }
+    {
+        let from = self.place_of_row[incoming];
+        let displaced = self.row_at_place[place];
+        self.place_of_row[displaced] = from;
+        self.place_of_row[incoming] = place;
+        self.row_at_place[from] = displaced;
+        self.row_at_place[place] = incoming;
+        from
     }
 }
 
-// Row `incoming` has come to `place` from `from`, and row `displaced`, which was there, has gone to `from`.
-fn note(
-    place_of_row: &mut [usize],
-    row_at_place: &mut [usize],
-    place: usize,
-    from: usize,
-    incoming: usize,
-    displaced: usize,
-)
-    requires place { place < length row_at_place.old }
-    requires from { from < length row_at_place.old }
-    requires incoming { incoming < length place_of_row.old }
-    requires displaced { displaced < length place_of_row.old }
-    ensures place_of_row { place_of_row.new ≡ set (set place_of_row.old displaced from) incoming place }
-    ensures row_at_place { row_at_place.new ≡ set (set row_at_place.old from displaced) place incoming }
-{
-    place_of_row[displaced] = from;
-    place_of_row[incoming] = place;
-    row_at_place[from] = displaced;
-    row_at_place[place] = incoming;
-}
-
-// The first `kept` rows of `order` come first, from a start at which every row is at its own place.
-fn place_all(
-    words: &mut [u64],
-    marks: &mut [u8],
-    store: Layout,
-    place_of_row: &mut [usize],
-    row_at_place: &mut [usize],
-    order: &[usize],
-    kept: usize,
-)
+// The rows of `order` come first.
+fn place_kept(words: &mut [u64], marks: &mut [u8], store: Layout, order: &[usize])
     requires fit { Fit store words.old marks.old }
-    requires numbers { Numbers store.rows kept order.now }
-    requires places_own { Own store.rows place_of_row.old }
-    requires rows_own { Own store.rows row_at_place.old }
-    ensures { take kept (rows_of store words.new marks.new)
-        ≡ rows_numbered kept order.now (rows_of store words.old marks.old) }
+    requires numbers { Numbers store.rows order.now }
+    ensures { take (length order.now) (rows_of store words.new marks.new)
+        ≡ rows_numbered order.now (rows_of store words.old marks.old) }
 {
-    let mut place = 0;
-    while place < kept {
-        let incoming = order[place];
-        let from = place_of_row[incoming];
-        let displaced = row_at_place[place];
-        store::swap::swap_rows(words, marks, store, place, from);
-        note(place_of_row, row_at_place, place, from, incoming, displaced);
-        place += 1;
+    let mut places = Places::new();
+    for (place, incoming) in order.iter().enumerate() {
+        let from = places.exchange(place, *incoming);
+        swap_rows(words, marks, store, place, from);
     }
 }
 
-// The first `kept` rows of `order` come first.
-fn place_kept(words: &mut [u64], marks: &mut [u8], store: Layout, order: &[usize], kept: usize)
+// The rows of `order` come first, and the others become zero.
+pub(crate) fn move_kept(words: &mut [u64], marks: &mut [u8], store: Layout, order: &[usize])
     requires fit { Fit store words.old marks.old }
-    requires numbers { Numbers store.rows kept order.now }
-    ensures { take kept (rows_of store words.new marks.new)
-        ≡ rows_numbered kept order.now (rows_of store words.old marks.old) }
-{
-    let mut place_of_row = [0usize; MOST_ROWS];
-    let mut row_at_place = [0usize; MOST_ROWS];
-    own_places(&mut place_of_row);
-    own_places(&mut row_at_place);
-    place_all(
-        words,
-        marks,
-        store,
-        &mut place_of_row,
-        &mut row_at_place,
-        order,
-        kept,
-    );
-}
-
-// The first `kept` rows of `order` come first, and the others become zero.
-pub(crate) fn move_kept(
-    words: &mut [u64],
-    marks: &mut [u8],
-    store: Layout,
-    order: &[usize],
-    kept: usize,
-)
-    requires fit { Fit store words.old marks.old }
-    requires numbers { Numbers store.rows kept order.now }
+    requires numbers { Numbers store.rows order.now }
     ensures { rows_of store words.new marks.new
-        ≡ stored store (rows_numbered kept order.now (rows_of store words.old marks.old)) }
+        ≡ stored store (rows_numbered order.now (rows_of store words.old marks.old)) }
 {
-    place_kept(words, marks, store, order, kept);
-    store::zero::zero_rows(words, marks, store, kept);
+    place_kept(words, marks, store, order);
+    zero_rows(words, marks, store, order.len());
 }

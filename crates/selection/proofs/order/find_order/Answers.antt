@@ -1,31 +1,25 @@
-use Rattle.std.proofs.Common.{refl, sym, ◌∙◌, length-set}
+use Rattle.std.proofs.Common.{refl, sym, ◌∙◌, length-set, arith}
 use Rattle.selection.proofs.Finding.{order_starts, order_turn, order_ends, order_dry}
 use Rattle.selection.proofs.order.find_order.Goals as goal
 
-pub loop-kept-init : goal.loop-kept-init
-loop-kept-init c =
-    record { ordering = order_starts _ _ _ _ c.requires.a_flag_each c.requires.room; same_live = refl; same_order = refl }
+pub loop-live-init : goal.loop-live-init
+loop-live-init c = record { ordering = order_starts _ _ _ _ c.requires.a_flag_each c.new-order.ensures; same_live = refl }
 
-pub returns-in-None : goal.returns-in-None
-returns-in-None c =
-    let f = order_dry c.loop-kept.invariant.ordering (sym c.in-None.is ∙ c.next_rarest-lowest.ensures) in
-    record { value = f.count; order = f.numbers }
+pub returns-in_default : goal.returns-in_default
+returns-in_default c = order_dry c.loop-live.invariant.ordering (sym c.in_default.is ∙ c.next_rarest.ensures)
 
-pub bounds-order-kept : goal.bounds-order-kept
-bounds-order-kept c = (order_turn c.loop-kept.invariant.ordering c.loop-kept-test.true _ (sym c.in-One.is ∙ c.next_rarest-lowest.ensures)).room
+pub push-requires : goal.push-requires
+push-requires c =
+    let t = order_turn c.loop-live.invariant.ordering (omega arith) _ (sym c.in-Some.is ∙ c.next_rarest.ensures) in
+    (omega arith, omega (arith, t.room))
 
-pub bounds-live-row : goal.bounds-live-row
-bounds-live-row c = (order_turn c.loop-kept.invariant.ordering c.loop-kept-test.true _ (sym c.in-One.is ∙ c.next_rarest-lowest.ensures)).row
+pub bounds-live-rarest : goal.bounds-live-rarest
+bounds-live-rarest c = (order_turn c.loop-live.invariant.ordering (omega arith) _ (sym c.in-Some.is ∙ c.next_rarest.ensures)).row
 
-pub loop-kept-preserved : goal.loop-kept-preserved
-loop-kept-preserved c =
-    record {
-      ordering = (order_turn c.loop-kept.invariant.ordering c.loop-kept-test.true _ (sym c.in-One.is ∙ c.next_rarest-lowest.ensures)).next;
-      same_live = simp length-set c.loop-kept.invariant.same_live;
-      same_order = simp length-set c.loop-kept.invariant.same_order;
-    }
+pub loop-live-preserved : goal.loop-live-preserved
+loop-live-preserved c =
+    let t = order_turn c.loop-live.invariant.ordering (omega arith) _ (sym c.in-Some.is ∙ c.next_rarest.ensures) in
+    record { ordering = rw c.push.ensures.items t.next; same_live = simp length-set c.loop-live.invariant.same_live }
 
 pub returns : goal.returns
-returns c =
-    let f = order_ends c.loop-kept.invariant.ordering c.loop-kept-test.false in
-    record { value = f.count; order = f.numbers }
+returns c = order_ends c.loop-live.invariant.ordering (omega arith)

@@ -1,0 +1,22 @@
+use Rattle.store.proofs.Rows.{length_rows, fit_same}
+use Rattle.selection.proofs.Placing.{place_starts, place_turn, placed}
+use Rattle.selection.proofs.places.place_kept.Goals as goal
+
+pub loop-place-init : goal.loop-place-init
+loop-place-init c =
+    let p = c.new-places.ensures in
+    record { placing = place_starts _ c.requires.fit.sized.few (length_rows _ _ _ _ _) p.places p.rows; fit = c.requires.fit }
+
+pub loop-place-preserved : goal.loop-place-preserved
+loop-place-preserved c =
+    let i = c.loop-place.invariant in
+    let e = c.exchange-from.ensures in
+    let s = c.swap_rows in
+    record {
+      placing =
+          (place_turn c.requires.numbers i.placing c.loop-place-test.true).next _ _ _ (rw e.from at e.places) (rw e.from at e.rows) (rw e.from at s.ensures);
+      fit = fit_same s.new.words s.new.marks i.fit s.auto.words s.auto.marks;
+    }
+
+pub returns : goal.returns
+returns c = placed c.requires.numbers c.loop-place.invariant.placing c.loop-place-test.false
