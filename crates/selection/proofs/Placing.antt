@@ -5,17 +5,7 @@ use Rattle.std.proofs.Math.ListN.{length-map}
 use Rattle.laws.proofs.Lists.{map_get}
 use Rattle.rows.specs.Rows.{Row, row}
 use Rattle.store.specs.Store.{nth_row, rows_swapped}
-use Rattle.selection.specs.Places.{Numbers, Own, rows_numbered}
-
--- `place_of` says where each of n rows is, `row_at` which row is where: `rows` are those of `start`, moved so
-pub record Mapped (n : ℕ) (place_of row_at : List ℕ) (start rows : List Row) : Type 0 where
-  pub place_of_all : n ≤ length place_of
-  pub row_at_all : n ≤ length row_at
-  pub row_at_in : (place : ℕ) → place < n → get_or row_at place 0 < n
-  pub forth : (place : ℕ) → place < n → get_or place_of (get_or row_at place 0) 0 ≡ place
-  pub place_of_in : (r : ℕ) → r < n → get_or place_of r 0 < n
-  pub back : (r : ℕ) → r < n → get_or row_at (get_or place_of r 0) 0 ≡ r
-  pub moved : (place : ℕ) → place < n → nth_row rows place ≡ nth_row start (get_or row_at place 0)
+use Rattle.selection.specs.Places.{Numbers, Own, Inverse, rows_numbered}
 
 less_not : {a b : ℕ} → a < b → a ≡ b → ⊥
 less_not l e = omega arith
@@ -49,11 +39,14 @@ module _ {A : Type 0} (l : List A) (a b : ℕ) (x y d : A) where
   at_other : (k : ℕ) → (k ≡ b → ⊥) → (k ≡ a → ⊥) → get_or both k d ≡ get_or l k d
   at_other k n m = get_or-set_other (set l a x) b k y d n ∙ get_or-set_other l a k x d m
 
-own_fewer : {n m : ℕ} {places : List ℕ} → Own m places → n ≤ m → Own n places
+pub own_fewer : {n m : ℕ} {places : List ℕ} → Own m places → n ≤ m → Own n places
 own_fewer o h = record { room = omega (arith, o.room); own = λ k l. o.own k (lt_of_lt_of_le l h) }
 
-mapped_own : (n : ℕ) (place_of row_at : List ℕ) (rows : List Row) → Own n place_of → Own n row_at → Mapped n place_of row_at rows rows
-mapped_own n place_of row_at rows a b =
+-- every row at the place of its own number
+pub inverse_own : {n m : ℕ} {place_of row_at : List ℕ} → n ≤ m → Own m place_of → Own m row_at → Inverse n place_of row_at
+inverse_own {n} {m} {place_of} {row_at} l p r =
+    let a : Own n place_of = own_fewer p l in
+    let b : Own n row_at = own_fewer r l in
     record {
       place_of_all = a.room;
       row_at_all = b.room;
@@ -61,12 +54,10 @@ mapped_own n place_of row_at rows a b =
       forth = λ place h. ap (λ (k : ℕ). get_or place_of k 0) (b.own place h) ∙ a.own place h;
       place_of_in = λ r h. omega (arith, a.own r h);
       back = λ r h. ap (λ (k : ℕ). get_or row_at k 0) (a.own r h) ∙ b.own r h;
-      moved = λ place h. ap (λ (k : ℕ). nth_row rows k) (sym (b.own place h));
     }
 
 -- row `incoming` comes to `place`, and the row that is there goes where `incoming` was
-module _ {n : ℕ} {place_of row_at : List ℕ} {start rows : List Row} (M : Mapped n place_of row_at start rows) (all : length rows ≡ n)
-    (place incoming : ℕ) (h_place : place < n) (h_incoming : incoming < n) where
+module _ {n : ℕ} {place_of row_at : List ℕ} (M : Inverse n place_of row_at) (place incoming : ℕ) (h_place : place < n) (h_incoming : incoming < n) where
   abbrev from : ℕ
   from = get_or place_of incoming 0
 
@@ -139,26 +130,7 @@ module _ {n : ℕ} {place_of row_at : List ℕ} {start rows : List Row} (M : Map
       (λ z. m (sym (M.back r h) ∙ ap (λ (k : ℕ). get_or row_at k 0) z ∙ M.back incoming h_incoming))
       ∙ M.back r h
 
-  moved' : (q : ℕ) → q < n → Where from place q → nth_row (rows_swapped place from rows) q ≡ nth_row start (get_or row_at' q 0)
-  moved' q h (first e) =
-      at_first rows place from (nth_row rows from) (nth_row rows place) (row [] []) q e (subst (λ (k : ℕ). from < k) (sym all) h_from)
-      ∙ M.moved place h_place
-      ∙ ap (λ (k : ℕ). nth_row start k) (sym (now_from (find place from q)))
-    where
-      now_from : Where place from q → get_or row_at' q 0 ≡ displaced
-      now_from (first f) = row_at_first q f ∙ sym (one (sym e ∙ f))
-      now_from (second m f) = row_at_second q m f
-      now_from (other m m') = absurd (m' e)
-  moved' q h (second m e) =
-      at_second rows place from (nth_row rows from) (nth_row rows place) (row [] []) q m e (subst (λ (k : ℕ). place < k) (sym all) h_place)
-      ∙ M.moved from h_from
-      ∙ ap (λ (k : ℕ). nth_row start k) (M.back incoming h_incoming ∙ sym (row_at_first q e))
-  moved' q h (other m m') =
-      at_other rows place from (nth_row rows from) (nth_row rows place) (row [] []) q m m'
-      ∙ M.moved q h
-      ∙ ap (λ (k : ℕ). nth_row start k) (sym (row_at_other q m' m))
-
-  exchanged : Mapped n place_of' row_at' start (rows_swapped place from rows)
+  pub exchanged : Inverse n place_of' row_at'
   exchanged =
       record {
         place_of_all = omega (arith, M.place_of_all, length-set (set place_of displaced from) incoming place, length-set place_of displaced from);
@@ -167,38 +139,47 @@ module _ {n : ℕ} {place_of row_at : List ℕ} {start rows : List Row} (M : Map
         forth = λ q h. forth' q h (find place from q);
         place_of_in = λ r h. place_of_in' r h (find incoming displaced r);
         back = λ r h. back' r h (find incoming displaced r);
-        moved = λ q h. moved' q h (find from place q);
       }
+
+  -- and so are the rows that they are of
+  module _ (start rows : List Row) (all : length rows ≡ n)
+      (moved : (q : ℕ) → q < n → nth_row rows q ≡ nth_row start (get_or row_at q 0)) where
+    moved' : (q : ℕ) → q < n → Where from place q → nth_row (rows_swapped place from rows) q ≡ nth_row start (get_or row_at' q 0)
+    moved' q h (first e) =
+        at_first rows place from (nth_row rows from) (nth_row rows place) (row [] []) q e (subst (λ (k : ℕ). from < k) (sym all) h_from)
+        ∙ moved place h_place
+        ∙ ap (λ (k : ℕ). nth_row start k) (sym (now_from (find place from q)))
+      where
+        now_from : Where place from q → get_or row_at' q 0 ≡ displaced
+        now_from (first f) = row_at_first q f ∙ sym (one (sym e ∙ f))
+        now_from (second m f) = row_at_second q m f
+        now_from (other m m') = absurd (m' e)
+    moved' q h (second m e) =
+        at_second rows place from (nth_row rows from) (nth_row rows place) (row [] []) q m e (subst (λ (k : ℕ). place < k) (sym all) h_place)
+        ∙ moved from h_from
+        ∙ ap (λ (k : ℕ). nth_row start k) (M.back incoming h_incoming ∙ sym (row_at_first q e))
+    moved' q h (other m m') =
+        at_other rows place from (nth_row rows from) (nth_row rows place) (row [] []) q m m'
+        ∙ moved q h
+        ∙ ap (λ (k : ℕ). nth_row start k) (sym (row_at_other q m' m))
 
 -- ---- the loop
 
-pub record Placing (n : ℕ) (order place_of row_at : List ℕ) (start rows : List Row) (place : ℕ) : Type 0 where
+pub record Placing (n : ℕ) (order row_at : List ℕ) (start rows : List Row) (place : ℕ) : Type 0 where
   pub all : length rows ≡ n
-  pub mapped : Mapped n place_of row_at start rows
+  pub moved : (q : ℕ) → q < n → nth_row rows q ≡ nth_row start (get_or row_at q 0)
   pub done : (j : ℕ) → j < place → get_or row_at j 0 ≡ get_or order j 0
 
-pub place_starts : {n m : ℕ} (order : List ℕ) {place_of row_at : List ℕ} {rows : List Row} → n ≤ m → length rows ≡ n → Own m place_of → Own m row_at
-    → Placing n order place_of row_at rows rows 0
-place_starts order l all a b =
-    record { all = all; mapped = mapped_own _ _ _ _ (own_fewer a l) (own_fewer b l); done = λ j h. absurd (not-suc-le-zero h) }
+pub place_starts : {n : ℕ} (order : List ℕ) {row_at : List ℕ} {rows : List Row} → length rows ≡ n → Own n row_at → Placing n order row_at rows rows 0
+place_starts order {row_at} {rows} all o =
+    record { all = all; moved = λ q h. ap (λ (k : ℕ). nth_row rows k) (sym (o.own q h)); done = λ j h. absurd (not-suc-le-zero h) }
 
--- what a turn may do, and what it leaves
-pub record Next (n : ℕ) (order place_of row_at : List ℕ) (start rows : List Row) (place : ℕ) : Type 0 where
-  pub incoming_in : get_or order place 0 < n
-  pub place_in : place < n
-  pub from_in : get_or place_of (get_or order place 0) 0 < n
-  pub displaced_in : get_or row_at place 0 < n
-  -- the next row is not among those that are placed
-  pub ahead : place ≤ get_or place_of (get_or order place 0) 0
-  pub next : (place_of' row_at' : List ℕ) (rows' : List Row)
-      → place_of' ≡ set (set place_of (get_or row_at place 0) (get_or place_of (get_or order place 0) 0)) (get_or order place 0) place
-      → row_at' ≡ set (set row_at (get_or place_of (get_or order place 0) 0) (get_or row_at place 0)) place (get_or order place 0)
-      → rows' ≡ rows_swapped place (get_or place_of (get_or order place 0) 0) rows
-      → Placing n order place_of' row_at' start rows' (place + 1)
+module _ {n : ℕ} {order row_at : List ℕ} {start rows : List Row} {place : ℕ} (N : Numbers n order)
+    (S : Placing n order row_at start rows place) where
+  module _ {m : ℕ} {place_of : List ℕ} (same : m ≡ n) (I : Inverse m place_of row_at) (h : place < length order) where
+    M : Inverse n place_of row_at
+    M = subst (λ (k : ℕ). Inverse k place_of row_at) same I
 
-module _ {n : ℕ} {order place_of row_at : List ℕ} {start rows : List Row} {place : ℕ} (N : Numbers n order)
-    (S : Placing n order place_of row_at start rows place) where
-  module _ (h : place < length order) where
     abbrev incoming : ℕ
     incoming = get_or order place 0
 
@@ -208,41 +189,31 @@ module _ {n : ℕ} {order place_of row_at : List ℕ} {start rows : List Row} {p
     h_place : place < n
     h_place = omega (arith, N.few)
 
+    -- the next row is not among those that are placed
     not_placed : place ≤ get_or place_of incoming 0
     not_placed = go (ltb (get_or place_of incoming 0) place) refl
       where
         go : (t : Bool) → ltb (get_or place_of incoming 0) place ≡ t → place ≤ get_or place_of incoming 0
         go true e =
             let l = ltb-true (get_or place_of incoming 0) place e in
-            absurd (N.apart (get_or place_of incoming 0) place l h (sym (S.done (get_or place_of incoming 0) l) ∙ S.mapped.back incoming h_incoming))
+            absurd (N.apart (get_or place_of incoming 0) place l h (sym (S.done (get_or place_of incoming 0) l) ∙ M.back incoming h_incoming))
         go false e = ltb-false (get_or place_of incoming 0) place e
 
-    turned : (place_of' row_at' : List ℕ) (rows' : List Row)
-        → place_of' ≡ set (set place_of (get_or row_at place 0) (get_or place_of incoming 0)) incoming place
+    -- what a turn leaves
+    pub place_turn : (row_at' : List ℕ) (rows' : List Row)
         → row_at' ≡ set (set row_at (get_or place_of incoming 0) (get_or row_at place 0)) place incoming
-        → rows' ≡ rows_swapped place (get_or place_of incoming 0) rows → Placing n order place_of' row_at' start rows' (place + 1)
-    turned place_of' row_at' rows' ea ew er =
+        → rows' ≡ rows_swapped place (get_or place_of incoming 0) rows → Placing n order row_at' start rows' (place + 1)
+    place_turn row_at' rows' ew er =
         record {
           all = rw er (simp length-set S.all);
-          mapped = rw (er, ew, ea) (exchanged S.mapped S.all place incoming h_place h_incoming);
+          moved = rw (er, ew) (λ q l. moved' M place incoming h_place h_incoming start rows S.all S.moved q l (find (get_or place_of incoming 0) place q));
           done =
               below_more (λ (j : ℕ). get_or row_at' j 0 ≡ get_or order j 0) place
               (λ j l.
               ap (λ (z : List ℕ). get_or z j 0) ew
-              ∙ row_at_other S.mapped S.all place incoming h_place h_incoming j (less_not l) (less_not (lt_of_lt_of_le l not_placed))
+              ∙ row_at_other M place incoming h_place h_incoming j (less_not l) (less_not (lt_of_lt_of_le l not_placed))
               ∙ S.done j l)
-              (ap (λ (z : List ℕ). get_or z place 0) ew ∙ row_at_first S.mapped S.all place incoming h_place h_incoming place refl);
-        }
-
-    pub place_turn : Next n order place_of row_at start rows place
-    place_turn =
-        record {
-          incoming_in = h_incoming;
-          place_in = h_place;
-          from_in = S.mapped.place_of_in incoming h_incoming;
-          displaced_in = S.mapped.row_at_in place h_place;
-          ahead = not_placed;
-          next = turned;
+              (ap (λ (z : List ℕ). get_or z place 0) ew ∙ row_at_first M place incoming h_place h_incoming place refl);
         }
 
   pub placed : length order ≤ place → take (length order) rows ≡ rows_numbered order start
@@ -252,6 +223,6 @@ module _ {n : ℕ} {order place_of row_at : List ℕ} {start rows : List Row} {p
       (λ j l.
       let jo : j < length order = omega (arith, la) in
       get_or-take (length order) rows j (row [] []) jo
-      ∙ S.mapped.moved j (omega (arith, N.few))
+      ∙ S.moved j (omega (arith, N.few))
       ∙ ap (λ (k : ℕ). nth_row start k) (S.done j (omega arith))
       ∙ sym (map_get (nth_row start) order j 0 (row [] []) jo))

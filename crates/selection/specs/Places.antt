@@ -17,3 +17,12 @@ rows_numbered order rows = map (nth_row rows) order
 pub record Own (n : ℕ) (places : List ℕ) : Type 0 where
   pub room : n ≤ length places
   pub own : (place : ℕ) → place < n → get_or places place 0 ≡ place
+
+-- of n rows `place_of` says where each is, and `row_at` which is at each of n places: each is the other's inverse
+pub record Inverse (n : ℕ) (place_of row_at : List ℕ) : Type 0 where
+  pub place_of_all : n ≤ length place_of
+  pub row_at_all : n ≤ length row_at
+  pub row_at_in : (place : ℕ) → place < n → get_or row_at place 0 < n
+  pub forth : (place : ℕ) → place < n → get_or place_of (get_or row_at place 0) 0 ≡ place
+  pub place_of_in : (r : ℕ) → r < n → get_or place_of r 0 < n
+  pub back : (r : ℕ) → r < n → get_or row_at (get_or place_of r 0) 0 ≡ r

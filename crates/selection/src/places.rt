@@ -1,9 +1,9 @@
 // The order carried out on the rows, by at most one exchange of two rows for each that is kept.
-ghost use Rattle.std.specs.Prelude.{◌≡◌, ◌<◌, length, take, set, get_or};
+ghost use Rattle.std.specs.Prelude.{◌≡◌, ◌<◌, ◌≤◌, length, take, set, get_or};
 ghost use Rattle.rows.specs.Limits.{most_rows};
 ghost use Rattle.store.specs.Store.{Fit, rows_of};
 ghost use Rattle.rounds.specs.Rounds.{stored};
-ghost use Rattle.selection.specs.Places.{Numbers, Own, rows_numbered};
+ghost use Rattle.selection.specs.Places.{Numbers, Own, Inverse, rows_numbered};
 
 use rows::limits::MOST_ROWS;
 use std::array;
@@ -11,21 +11,32 @@ use store::layout::Layout;
 use store::swap::swap_rows;
 use store::zero::zero_rows;
 
-// Where each row is, and which row is at each place.
+// Every number at its own place.
+fn own_numbers() -> [usize; MOST_ROWS]
+    ensures { Own most_rows result }
+{
+    array::from_fn(|place| place)
+}
+
+// Where each of some rows is, and which row is at each place.
 #[derive(Drop)]
 struct Places {
+    rows: usize,
     place_of_row: [usize; MOST_ROWS],
     row_at_place: [usize; MOST_ROWS],
+    ghost inverse: { Inverse rows place_of_row row_at_place },
 }
 
 impl Places {
     // Every row at the place of its own number.
-    fn new() -> Places
-        ensures places { Own most_rows result.place_of_row }
-        ensures rows { Own most_rows result.row_at_place }
+    fn new(rows: usize) -> Places
+        requires { rows ≤ most_rows }
+        ensures rows { result.rows ≡ rows }
+        ensures own { Own rows result.row_at_place }
     {
-        let own = array::from_fn(|place| place);
+        let own = own_numbers();
         Places {
+            rows,
             place_of_row: own,
             row_at_place: own,
         }
@@ -33,13 +44,12 @@ impl Places {
 
     // Row `incoming` comes to `place`, and the row that is there goes where `incoming` was, which is answered.
     fn exchange(&mut self, place: usize, incoming: usize) -> usize
-        requires place { place < most_rows }
-        requires incoming { incoming < most_rows }
-        requires from { get_or self.old.place_of_row incoming 0 < most_rows }
-        requires displaced { get_or self.old.row_at_place place 0 < most_rows }
+        requires place { place < self.old.rows }
+        requires incoming { incoming < self.old.rows }
         ensures from { result ≡ get_or self.old.place_of_row incoming 0 }
-        ensures places { self.new.place_of_row ≡ set (set self.old.place_of_row (get_or self.old.row_at_place place 0) result) incoming place }
-        ensures rows { self.new.row_at_place ≡ set (set self.old.row_at_place result (get_or self.old.row_at_place place 0)) place incoming }
+        ensures rows { self.new.rows ≡ self.old.rows }
+        ensures exchanged { self.new.row_at_place
+            ≡ set (set self.old.row_at_place result (get_or self.old.row_at_place place 0)) place incoming }
     {
         let from = self.place_of_row[incoming];
         let displaced = self.row_at_place[place];
@@ -58,7 +68,7 @@ fn place_kept(words: &mut [u64], marks: &mut [u8], store: Layout, order: &[usize
     ensures { take (length order.now) (rows_of store words.new marks.new)
         ≡ rows_numbered order.now (rows_of store words.old marks.old) }
 {
-    let mut places = Places::new();
+    let mut places = Places::new(store.rows);
     for (place, incoming) in order.iter().enumerate() {
         let from = places.exchange(place, *incoming);
         swap_rows(words, marks, store, place, from);

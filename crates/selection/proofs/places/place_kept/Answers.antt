@@ -1,3 +1,4 @@
+use Rattle.std.proofs.Common.{◌∙◌}
 use Rattle.store.proofs.Rows.{length_rows, fit_same}
 use Rattle.selection.proofs.Placing.{place_starts, place_turn, placed}
 use Rattle.selection.proofs.places.place_kept.Goals as goal
@@ -5,7 +6,7 @@ use Rattle.selection.proofs.places.place_kept.Goals as goal
 pub loop-place-init : goal.loop-place-init
 loop-place-init c =
     let p = c.new-places.ensures in
-    record { placing = place_starts _ c.requires.fit.sized.few (length_rows _ _ _ _ _) p.places p.rows; fit = c.requires.fit }
+    record { placing = place_starts _ (length_rows _ _ _ _ _) p.own; all_rows = p.rows; fit = c.requires.fit }
 
 pub loop-place-preserved : goal.loop-place-preserved
 loop-place-preserved c =
@@ -14,7 +15,9 @@ loop-place-preserved c =
     let s = c.swap_rows in
     record {
       placing =
-          (place_turn c.requires.numbers i.placing c.loop-place-test.true).next _ _ _ (rw e.from at e.places) (rw e.from at e.rows) (rw e.from at s.ensures);
+          place_turn c.requires.numbers i.placing i.all_rows c.loop-place.places.inverse c.loop-place-test.true _ _
+          (rw e.from at e.exchanged) (rw e.from at s.ensures);
+      all_rows = e.rows ∙ i.all_rows;
       fit = fit_same s.new.words s.new.marks i.fit s.auto.words s.auto.marks;
     }
 

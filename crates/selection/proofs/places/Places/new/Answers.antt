@@ -1,10 +1,8 @@
-use Rattle.std.proofs.Common.{arith, rules}
+use Rattle.selection.proofs.Placing.{own_fewer, inverse_own}
 use Rattle.selection.proofs.places.Places.new.Goals as goal
 
-pub returns-clause-places : goal.returns-clause-places
-returns-clause-places c =
-    let f = c.from_fn-own.ensures.items in
-    record { room = omega (arith, f.long); own = λ place h. let a = f.at place 0 h in let k = a.2 in search rules }
+pub invariant_of-result : goal.invariant_of-result
+invariant_of-result c = record { inverse = inverse_own c.requires c.own_numbers-own.ensures c.own_numbers-own.ensures }
 
-pub returns-clause-rows : goal.returns-clause-rows
-returns-clause-rows c = returns-clause-places c
+pub returns-clause-own : goal.returns-clause-own
+returns-clause-own c = own_fewer c.own_numbers-own.ensures c.requires
