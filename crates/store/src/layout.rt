@@ -21,7 +21,7 @@ impl Layout {
         ensures { result ≡ layout rows memory log }
     {
         Layout {
-            rows: rows,
+            rows,
             words: HEADER + REGISTERS + memory as usize + log as usize,
             marks: REGISTERS + memory as usize,
         }
