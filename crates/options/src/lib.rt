@@ -2,7 +2,7 @@
 #![tactic(auto)]
 
 ghost use Rattle.std.specs.Prelude.{◌≡◌, ◌≤◌};
-ghost use Rattle.options.specs.Defaults.{default_mean, default_options};
+ghost use Rattle.options.specs.Defaults.{default_options};
 ghost use Rattle.options.specs.Means.{mean_number, mean_numbered};
 
 use means::MeanType;
@@ -45,18 +45,14 @@ pub const ITERATIONS: u32 = 20;
 pub const COPY_RATIO_BITS: u64 = 0x3fe3_3333_3333_3333;
 
 // The default of mean.
-pub fn default_mean() -> MeanType
-    ensures { result ≡ default_mean }
-{
-    MeanType::Harmonic
-}
+pub const MEAN: MeanType = MeanType::Harmonic;
 
-impl RaritySimulationOptions {
-    // The default options: those that the Rust's command line starts from, but for the number of states.
+// The default options: those that the Rust's command line starts from, but for the number of states.
+impl Default for RaritySimulationOptions {
+    ghost is_default = { λ options. options ≡ default_options };
+
     #[tactic(auto, unfolding(crate::specs::Defaults::default_options))]
-    pub fn default() -> RaritySimulationOptions
-        ensures { result ≡ default_options }
-    {
+    fn default() -> RaritySimulationOptions {
         RaritySimulationOptions {
             memory_size: MEMORY_SIZE,
             amount_of_states: AMOUNT_OF_STATES,
@@ -64,7 +60,7 @@ impl RaritySimulationOptions {
             selection: SELECTION,
             iterations: ITERATIONS,
             copy_init_ratio: f64::from_bits(COPY_RATIO_BITS),
-            mean: default_mean(),
+            mean: MEAN,
         }
     }
 }
@@ -84,9 +80,8 @@ pub fn mean_number(mean: MeanType) -> u64
 pub fn mean_numbered(number: u64) -> MeanType
     ensures { result ≡ mean_numbered number }
 {
-    if number == 0 {
-        MeanType::Arithmetic
-    } else {
-        MeanType::Harmonic
+    match number {
+        0 => MeanType::Arithmetic,
+        _ => MeanType::Harmonic,
     }
 }

@@ -1,5 +1,5 @@
 use lib.Ieee.{nan_bits}
-use Rattle.options.proofs.RaritySimulationOptions.default.Goals as goal
+use Rattle.options.proofs.RaritySimulationOptionsDefault.default.Goals as goal
 
 -- the bits are no NaN's
 pub float_from_bits-result : goal.float_from_bits-result
