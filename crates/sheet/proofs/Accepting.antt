@@ -1,12 +1,5 @@
 -- What is known of an accepted sheet: its parts lie within it, and its numbers within their limits.
-use mathlib.Core.Path.{◌≡◌, refl}
-use mathlib.Core.Bool.{Bool, true, false, cond, ◌||◌}
-use mathlib.Core.List.{List}
-use Prim.Native.Nat.{ℕ, ◌+◌, ◌^◌, ◌<◌, ◌≤◌}
-use native.Mathlib.Omega.{arith}
-use lib.Dec.{ltb}
-use lib.ListN.{length}
-use borrow.Author.Tests.{ltb-false}
+use Rattle.std.proofs.Common.{Result, Ok, Err, ◌≡◌, refl, Bool, true, false, cond, ◌||◌, List, ℕ, ◌+◌, ◌^◌, ◌<◌, ◌≤◌, arith, ltb, length, ltb-false}
 use Rattle.laws.proofs.Choices.{neither}
 use Rattle.sheet.specs.Sheets.{fields_of, with_defaults, sheet_of, above_limit, part_past, fields_parsed, parsed}
 use Rattle.sheet.specs.Parts.{PartsWithin}
@@ -15,8 +8,6 @@ use Rattle.sheet.specs.declared.limits.Limits.{Limits}
 use Rattle.sheet.specs.declared.parse.Sheet.{Sheet}
 use Rattle.sheet.specs.declared.parse.SheetError.{SheetError}
 use Rattle.sheet.specs.declared.parse.SheetError.TheVariants.{SheetLength, PartPastEnd, UnknownMean, AboveLimit}
-use Rattle.sheet.specs.declared.parse.Parsed.{Parsed}
-use Rattle.sheet.specs.declared.parse.Parsed.TheVariants.{Refused, Accepted}
 
 -- the numbers of a sheet are within their limits
 pub record Fitting (l : Limits) (h : Sheet) : Type 0 where
@@ -55,7 +46,7 @@ in_bytes n f h =
     record { in_code = ltb-false _ _ a.0; in_data = ltb-false _ _ b.0; in_tape = ltb-false _ _ b.1 }
 
 -- a test that refuses did not hold of what is accepted
-passed : (b : Bool) (k : SheetError) (y : Parsed) (h : Sheet) → cond b (Refused k) y ≡ Accepted h → (b ≡ false) × (y ≡ Accepted h)
+passed : (b : Bool) (k : SheetError) (y : Result Sheet SheetError) (h : Sheet) → cond b (Err k) y ≡ Ok h → (b ≡ false) × (y ≡ Ok h)
 passed true k y h e = (cc, cc)
 passed false k y h e = (refl, e)
 
@@ -65,16 +56,16 @@ pub record Passed (l : Limits) (n : ℕ) (f : Fields) (h : Sheet) : Type 0 where
   pub limits : above_limit l f ≡ false
   pub is : sheet_of f ≡ h
 
-fields_passed : (l : Limits) (n : ℕ) (f : Fields) (h : Sheet) → fields_parsed l n f ≡ Accepted h → Passed l n f h
+fields_passed : (l : Limits) (n : ℕ) (f : Fields) (h : Sheet) → fields_parsed l n f ≡ Ok h → Passed l n f h
 fields_passed l n f h e =
     let a = passed (part_past n f) PartPastEnd _ h e in
     let b = passed (ltb 1 f.mean) UnknownMean _ h a.1 in
     let c = passed (above_limit l f) AboveLimit _ h b.1 in
-    let same : Accepted (sheet_of f) ≡ Accepted h = c.1 in
+    let same : Ok (sheet_of f) ≡ Ok h = c.1 in
     record { parts = a.0; limits = c.0; is = cc }
 
-module _ (l : Limits) (s : List ℕ) (h : Sheet) (accepted : parsed l s ≡ Accepted h) where
-  length_passed : ((ltb (length s) 128 || ltb l.bytes (length s)) ≡ false) × (fields_parsed l (length s) (with_defaults (fields_of s)) ≡ Accepted h)
+module _ (l : Limits) (s : List ℕ) (h : Sheet) (accepted : parsed l s ≡ Ok h) where
+  length_passed : ((ltb (length s) 128 || ltb l.bytes (length s)) ≡ false) × (fields_parsed l (length s) (with_defaults (fields_of s)) ≡ Ok h)
   unfolding parsed
   length_passed = passed _ SheetLength _ h accepted
 

@@ -1,5 +1,5 @@
 -- The sheet ("The sheet" in document 01): sixteen little-endian fields, defaults, and what a sequence of bytes is as a sheet.
-use Rattle.std.specs.Prelude.{Bool, cond, ◌||◌, List, [], ◌∷◌, ◌++◌, ℕ, zero, suc, ◌+◌, ◌-◌, ◌*◌, ◌^◌, eqb, ltb, length, take, drop}
+use Rattle.std.specs.Prelude.{Result, Ok, Err, Bool, cond, ◌||◌, List, [], ◌∷◌, ◌++◌, ℕ, zero, suc, ◌+◌, ◌-◌, ◌*◌, ◌^◌, eqb, ltb, length, take, drop}
 use Rattle.std.specs.Float.{binary64}
 use Rattle.std.specs.Float.Ieee.{of_bits}
 use Rattle.loader.specs.Loading.{word_at, Program, program, segment}
@@ -12,8 +12,6 @@ use Rattle.sheet.specs.declared.parse.Part.{Part}
 use Rattle.sheet.specs.declared.parse.Sheet.{Sheet}
 use Rattle.sheet.specs.declared.parse.SheetError.{SheetError}
 use Rattle.sheet.specs.declared.parse.SheetError.TheVariants.{SheetLength, PartPastEnd, UnknownMean, AboveLimit}
-use Rattle.sheet.specs.declared.parse.Parsed.{Parsed}
-use Rattle.sheet.specs.declared.parse.Parsed.TheVariants.{Refused, Accepted}
 
 -- field i of a sheet
 abbrev pub field : List ℕ → ℕ → ℕ
@@ -102,17 +100,17 @@ part_past n f =
     || (ltb n (f.data_offset + f.data_length) || ltb n (f.tape_offset + 8 * f.tape_words))
 
 -- 52, 53, 54 of a sheet of n bytes, its defaults put in
-abbrev pub fields_parsed : Limits → ℕ → Fields → Parsed
+abbrev pub fields_parsed : Limits → ℕ → Fields → Result Sheet SheetError
 fields_parsed l n f =
-    cond (part_past n f) (Refused PartPastEnd)
-    (cond (ltb 1 f.mean) (Refused UnknownMean)
-    (cond (above_limit l f) (Refused AboveLimit)
-    (Accepted (sheet_of f))))
+    cond (part_past n f) (Err PartPastEnd)
+    (cond (ltb 1 f.mean) (Err UnknownMean)
+    (cond (above_limit l f) (Err AboveLimit)
+    (Ok (sheet_of f))))
 
 -- 51 first
-unfoldable pub parsed : Limits → List ℕ → Parsed
+unfoldable pub parsed : Limits → List ℕ → Result Sheet SheetError
 parsed l s =
-    cond (ltb (length s) 128 || ltb l.bytes (length s)) (Refused SheetLength)
+    cond (ltb (length s) 128 || ltb l.bytes (length s)) (Err SheetLength)
     (fields_parsed l (length s) (with_defaults (fields_of s)))
 
 abbrev pub sheet_number : SheetError → ℕ

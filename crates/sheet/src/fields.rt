@@ -4,7 +4,7 @@ ghost use Rattle.sheet.specs.Sheets.{fields_of, or_default, with_defaults};
 
 use loader::word_at;
 use options::{
-    AMOUNT_OF_STATES, COPY_RATIO_BITS, ITERATIONS, MEMORY_SIZE, SELECTION, STEP_SIZE, default_mean,
+    AMOUNT_OF_STATES, COPY_RATIO_BITS, ITERATIONS, MEAN, MEMORY_SIZE, SELECTION, STEP_SIZE,
     mean_number,
 };
 
@@ -70,13 +70,14 @@ fn or_default(x: u64, default: u64) -> u64
 pub(crate) fn defaulted(fields: Fields) -> Fields
     ensures { result ≡ with_defaults fields }
 {
-    let mut f = fields;
-    f.states = or_default(fields.states, AMOUNT_OF_STATES);
-    f.step = or_default(fields.step, STEP_SIZE as u64);
-    f.selection = or_default(fields.selection, SELECTION as u64);
-    f.rounds = or_default(fields.rounds, ITERATIONS as u64);
-    f.ratio = or_default(fields.ratio, COPY_RATIO_BITS);
-    f.mean = or_default(fields.mean, mean_number(default_mean()));
-    f.memory = or_default(fields.memory, MEMORY_SIZE);
-    f
+    Fields {
+        states: or_default(fields.states, AMOUNT_OF_STATES),
+        step: or_default(fields.step, STEP_SIZE as u64),
+        selection: or_default(fields.selection, SELECTION as u64),
+        rounds: or_default(fields.rounds, ITERATIONS as u64),
+        ratio: or_default(fields.ratio, COPY_RATIO_BITS),
+        mean: or_default(fields.mean, mean_number(MEAN)),
+        memory: or_default(fields.memory, MEMORY_SIZE),
+        ..fields
+    }
 }

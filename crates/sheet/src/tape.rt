@@ -11,9 +11,7 @@ pub fn read_words(bytes: &[u8], tape: &mut [u64])
     requires { 8 * length tape.old ≤ length bytes.now }
     ensures { tape.new ≡ words_in (length tape.old) bytes.now }
 {
-    let mut i = 0;
-    while i < tape.len() {
-        tape[i] = word_at(bytes, 8 * i);
-        i += 1;
+    for (i, word) in tape.iter_mut().enumerate() {
+        *word = word_at(bytes, 8 * i);
     }
 }
