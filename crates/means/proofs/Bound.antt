@@ -1,11 +1,5 @@
--- The bound of document 01 for any list of counters, however they come about: a score is finite, at least 1, and within one part in 2^32 of the exact mean.
-use mathlib.Core.Path.{sym, subst}
-use mathlib.Core.List.{List}
-use Prim.Native.Nat.{ℕ, ◌+◌, ◌*◌, ◌≤◌, ◌<◌}
-use native.Mathlib.Nat.{le_trans, le_of_eq, one-mul, mul-le-mul}
-use native.Mathlib.Omega.{arith}
-use lib.ListN.{length}
-use lib.Dec.{lit<, lit≤}
+-- The bound of a score for any list of counters, however they come about: a score is finite, at least 1, and within one part in 2^32 of the exact mean.
+use Rattle.std.proofs.Common.{sym, subst, List, ℕ, ◌+◌, ◌*◌, ◌≤◌, ◌<◌, le_trans, le_of_eq, one-mul, mul-le-mul, arith, length, lit<, lit≤}
 use lib.Ieee.{Float}
 use lib.Ieee.Positive.{num, den, den_pos, first_pos}
 use Rattle.laws.proofs.Floats.{plain_positive}

@@ -1,8 +1,5 @@
 -- Two fractions that differ by at most so many units, a unit being one part in 2^55. A rounding is 4 units, and each is given 5, so that errors add up.
-use Prim.Native.Nat.{ℕ, ◌+◌, ◌*◌, ◌≤◌, ◌<◌}
-use native.Mathlib.Nat.{le_trans, le_of_eq, mul_comm, mul_assoc, mul-le-mul_right}
-use native.Mathlib.Omega.{arith}
-use lib.Dec.{lit<}
+use Rattle.std.proofs.Common.{ℕ, ◌+◌, ◌*◌, ◌≤◌, ◌<◌, le_trans, le_of_eq, mul_comm, mul_assoc, mul-le-mul_right, arith, lit<}
 use Rattle.means.specs.Means.{Fraction}
 use Rattle.means.proofs.Fractions.{over, plus, Ratio, looser, through, ratio_plus, ratio_over}
 

@@ -1,7 +1,5 @@
 -- The scores that are computed from the counters 1 and 2 of case P9.
-use mathlib.Core.Path.{◌≡◌, refl}
-use mathlib.Core.List.{List, [], ◌∷◌}
-use Prim.Native.Nat.{ℕ}
+use Rattle.std.proofs.Common.{◌≡◌, refl, List, [], ◌∷◌, ℕ}
 use lib.Ieee.{binary64, add, div, of_int, to_bits}
 use Rattle.means.specs.declared.MeanType.TheVariants.{Arithmetic, Harmonic}
 use Rattle.means.specs.Means.{reciprocals, sum, mean}

@@ -1,10 +1,8 @@
 -- A fraction's nearest whole number is at most a half away from it. Nothing here is about floats.
-use mathlib.Core.Path.{◌≡◌}
-use Prim.Native.Nat.{ℕ, suc, ◌+◌, ◌*◌, ◌/◌, ◌%◌, ◌≤◌, ◌<◌, compare, Ordering}
-use native.Mathlib.Nat.{add-mul, suc-mul, mul-le-mul_right, mod-lt, div-add-mod'}
-use native.Mathlib.Omega.{arith}
-use mathlib.Core.Bool.{not}
-use lib.Dec.{T, is_le, compare_is_eq, leb→le, nleb→lt, eqb→eq}
+use Rattle.std.proofs.Common.{◌≡◌, ℕ, suc, ◌+◌, ◌*◌, ◌/◌, ◌%◌, ◌≤◌, ◌<◌, add-mul, suc-mul, mul-le-mul_right, mod-lt, div-add-mod', arith, not, T}
+use Rattle.std.proofs.Common.{leb→le, eqb→eq}
+use Prim.Native.Nat.{compare, Ordering}
+use lib.Dec.{is_le, compare_is_eq, nleb→lt}
 use lib.Ieee.{nearest}
 use lib.Ieee.Nearest.{closest}
 

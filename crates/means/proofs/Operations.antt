@@ -1,9 +1,6 @@
 -- The f64 operations of a mean, each as one rounding of the exact fraction.
-use mathlib.Core.Path.{◌≡◌, refl, sym, ap, ◌∙◌}
-use Prim.Native.Nat.{ℕ, ◌*◌, ◌≤◌, ◌<◌}
-use native.Mathlib.Nat.{mul_comm, mul_assoc, mul-one, mul-pos, lt_irrefl}
-use mathlib.Core.Bool.{Bool, true, false, cond}
-use lib.Dec.{T, le→leb, eqb, eqb→eq, ltb→lt}
+use Rattle.std.proofs.Common.{◌≡◌, refl, sym, ap, ◌∙◌, ℕ, ◌*◌, ◌≤◌, ◌<◌, mul_comm, mul_assoc, mul-one, mul-pos, lt_irrefl, Bool, true, false, cond, T}
+use Rattle.std.proofs.Common.{le→leb, eqb, eqb→eq, ltb→lt}
 use lib.IntN.{pos}
 use lib.Ieee.{Float, binary64, add, div, in_float}
 use lib.Ieee.Scale.{round_same}

@@ -1,12 +1,9 @@
 -- One rounding of a fraction to an f64. From 2^-15 to 2^53 the result is finite and above zero, and at most 4 units of 2^-55 away;
 -- and a rounding never goes past a fraction that is itself an f64.
-use mathlib.Core.Path.{◌≡◌, refl, sym, ap, ◌∙◌, subst}
-use Prim.Native.Nat.{ℕ, ◌+◌, ◌-◌, ◌*◌, ◌/◌, ◌%◌, ◌^◌, ◌≤◌, ◌<◌, compare}
-use native.Mathlib.Nat.{le_trans, le_of_eq, mul_comm, mul_assoc, mul_left_comm, mul-one, one-mul, mul-le-mul_right, mul-le-mul_left, mul-pos, le-div_iff_mul-le}
-use native.Mathlib.Omega.{arith}
-use mathlib.Core.Bool.{false}
-use lib.Dec.{T, lit<, lit≤}
-use lib.Pow.{pow-add, pow_pos}
+use Rattle.std.proofs.Common.{◌≡◌, refl, sym, ap, ◌∙◌, subst, ℕ, ◌+◌, ◌-◌, ◌*◌, ◌/◌, ◌%◌, ◌^◌, ◌≤◌, ◌<◌, le_trans, le_of_eq, mul_comm, mul_assoc}
+use Rattle.std.proofs.Common.{mul_left_comm, mul-one, one-mul, mul-le-mul_right, mul-le-mul_left, mul-pos, le-div_iff_mul-le, arith, false, T, lit<}
+use Rattle.std.proofs.Common.{lit≤, pow-add, pow_pos}
+use Prim.Native.Nat.{compare}
 use lib.Ieee.{Float, binary64, low, size, round, of_int, le}
 use lib.Ieee.Digits.{size_reaches}
 use lib.Ieee.Exact.{HasValue, round_exact}

@@ -1,5 +1,5 @@
 -- Scores as a ruler: where one score is at most another, so is its exact mean, up to one part in 2^30.
-use lib.Dec.{T, lit<, lit≤}
+use Rattle.std.proofs.Common.{T, lit<, lit≤}
 use lib.Ieee.{Float, le}
 use lib.Ieee.Positive.{den_pos, le→cross}
 use Rattle.means.specs.Means.{Fraction, Scores, AtMost}

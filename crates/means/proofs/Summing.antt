@@ -1,11 +1,6 @@
 -- The computed sum of reciprocals against the exact one, one counter after the other.
-use mathlib.Core.Path.{◌≡◌, sym, ap, ◌∙◌, subst}
-use mathlib.Core.List.{List, [], ◌∷◌}
-use Prim.Native.Nat.{ℕ, suc, ◌+◌, ◌*◌, ◌≤◌, ◌<◌}
-use native.Mathlib.Nat.{zero-add, add-zero, lt_irrefl, le_trans, le_of_eq, mul_comm, mul_assoc, mul_left_comm, suc-mul, mul-le-mul_right, mul-le-mul_left, mul-pos}
-use native.Mathlib.Omega.{arith}
-use lib.ListN.{length}
-use lib.Dec.{T, lit<, lit≤}
+use Rattle.std.proofs.Common.{◌≡◌, sym, ap, ◌∙◌, subst, List, [], ◌∷◌, ℕ, suc, ◌+◌, ◌*◌, ◌≤◌, ◌<◌, zero-add, add-zero, lt_irrefl, le_trans, le_of_eq}
+use Rattle.std.proofs.Common.{mul_comm, mul_assoc, mul_left_comm, suc-mul, mul-le-mul_right, mul-le-mul_left, mul-pos, arith, length, T, lit<, lit≤}
 use lib.Ieee.{Float, binary64, add, div, of_int}
 use lib.Ieee.Positive.{num, den, den_pos}
 use Rattle.laws.proofs.Floats.{plain, positive_plain}

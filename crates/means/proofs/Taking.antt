@@ -1,9 +1,5 @@
 -- Counters taken in one at a time: the tally that grows is the tally of the list, its mean the list's, and it stays small.
-use mathlib.Core.Path.{◌≡◌, refl, sym, ap, ◌∙◌}
-use mathlib.Core.List.{List, [], ◌∷◌, ◌++◌}
-use Prim.Native.Nat.{ℕ, ◌+◌, ◌≤◌}
-use native.Mathlib.Nat.{zero-add, add-zero, add_assoc}
-use lib.ListN.{length, length-append}
+use Rattle.std.proofs.Common.{◌≡◌, refl, sym, ap, ◌∙◌, List, [], ◌∷◌, ◌++◌, ℕ, ◌+◌, ◌≤◌, zero-add, add-zero, add_assoc, length, length-append}
 use lib.Ieee.{Float, binary64, add, div}
 use Rattle.means.specs.declared.MeanType.{MeanType}
 use Rattle.means.specs.declared.MeanType.TheVariants.{Arithmetic, Harmonic}

@@ -1,4 +1,4 @@
--- The two means of a list of counters ("Scoring" in document 01): as the f64 that is computed, and exactly, as a fraction.
+-- The two means of a list of counters: as the f64 that is computed, and exactly, as a fraction.
 use Rattle.std.specs.Prelude.{List, [], ◌∷◌, ℕ, ◌+◌, ◌*◌, ◌/◌, ◌≤◌, T, Float, pos, length}
 use Rattle.std.specs.Float.{binary64}
 use Rattle.std.specs.Float.Ieee.{add, div, of_int, le}
