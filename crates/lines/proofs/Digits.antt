@@ -1,12 +1,7 @@
 -- The digits that the kit's `decimal` finds are those of the definition.
-use mathlib.Core.Path.{◌≡◌, refl, ap, subst}
-use mathlib.Core.List.{List, [], ◌∷◌, ◌++◌}
-use mathlib.Core.Bool.{Bool, true, false}
-use Prim.Native.Nat.{ℕ, zero, suc, ◌-◌, ◌+◌, ◌*◌, ◌/◌, ◌%◌, ◌^◌, ◌≤◌, ◌<◌}
-use native.Mathlib.Nat.{pow-succ', pow-le-pow_right, mod-lt, mod-eq_of_lt}
-use native.Mathlib.Omega.{arith}
-use lib.Dec.{leb}
-use borrow.Author.Tests.{lt-ltb, le-ltb, leb-true, leb-false}
+use Rattle.std.proofs.Common.{◌≡◌, ap, subst, List, [], ◌∷◌, ◌++◌, ℕ, zero, suc, ◌-◌, ◌+◌, ◌*◌, ◌/◌, ◌%◌, ◌^◌, ◌≤◌, ◌<◌, mod-lt, mod-eq_of_lt, arith}
+use Rattle.std.proofs.Common.{lt-ltb, le-ltb}
+use native.Mathlib.Nat.{pow-succ', pow-le-pow_right}
 use Rattle.io.specs.Digits.{last_digits, IsDigitCount}
 use Rattle.lines.specs.Lines.{digits_up_to, decimal}
 
@@ -28,18 +23,6 @@ digits_are (suc k) (suc (suc r)) n h f =
     let big : 10 ≤ n = omega arith in
     rw (le-ltb n 10 big, lt-ltb (n % 10) 10 small) (ap (λ (l : List ℕ). l ++ ((48 + n % 10) ∷ [])) up)
 
--- a 64-bit number has at most 20 digits
-pub at_most_20 : (n r : ℕ) → n < 2 ^ 64 → IsDigitCount 10 1 n r → r ≤ 20
-at_most_20 n r h f = go (leb r 20) refl
-  where
-    go : (t : Bool) → leb r 20 ≡ t → r ≤ 20
-    go true p = leb-true r 20 p
-    go false p =
-        let q : 20 < r = leb-false r 20 p in
-        let lo : 10 ^ (r - 1) ≤ n = f.2 (omega arith) in
-        let up : 10 ^ 20 ≤ 10 ^ (r - 1) = pow-le-pow_right {n = 10} (omega arith) {i = 20} {j = r - 1} (omega arith) in
-        absurd (omega arith)
-
--- so the digits that the kit's `decimal` finds are the decimal ones
-pub decimal_is : (n r : ℕ) → n < 2 ^ 64 → IsDigitCount 10 1 n r → last_digits 10 r n ≡ decimal n
-decimal_is n r h f = digits_are 20 r n (at_most_20 n r h f) f
+-- so the digits that the kit's `decimal` finds, of which there are at most 20, are the decimal ones
+pub decimal_is : (n r : ℕ) → r ≤ 20 → IsDigitCount 10 1 n r → last_digits 10 r n ≡ decimal n
+decimal_is n r = digits_are 20 r n

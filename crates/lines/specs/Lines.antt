@@ -1,4 +1,4 @@
--- What the bench program prints, as bytes ("The sheet" in document 01): `answer A row R pc P value V`, `input I` for each logged word
+-- What the bench program prints, as bytes (docs/SHEETS.md): `answer A row R pc P value V`, `input I` for each logged word
 -- that is told, `used T`, all decimal, each line ended by one line feed.
 use Rattle.std.specs.Prelude.{cond, List, [], ◌∷◌, ◌++◌, ℕ, zero, suc, ◌+◌, ◌/◌, ◌%◌, ltb}
 use Rattle.answers.specs.declared.answer.Answer.{Answer}

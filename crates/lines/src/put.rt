@@ -1,34 +1,37 @@
-// Numbers and labels, written at a place of a lent output; each function answers the place after what it wrote.
-ghost use Rattle.std.specs.Prelude.{◌+◌, ◌≤◌, length};
+// Numbers and labels, put into an output.
+ghost use Rattle.std.specs.Prelude.{◌≡◌, ◌+◌, ◌≤◌, length};
 ghost use Rattle.lines.specs.Lines.{decimal, labelled, number_line};
-ghost use Rattle.writing.specs.Writing.{Wrote};
+ghost use Rattle.writing.specs.Outputs.{Put};
 
-use writing::put;
+use writing::Output;
 
-fn put_decimal(out: &mut [u8], at: usize, n: u64) -> usize
-    requires { at + 20 ≤ length out.old }
-    ensures upper_bound { result ≤ at + 20 }
-    ensures wrote { Wrote out.old at (decimal n) result out.new }
+fn put_decimal(out: &mut Output, n: u64)
+    requires { out.old.written + 20 ≤ length out.old.bytes.now }
+    ensures same { out.new.bytes.ghost_name ≡ out.old.bytes.ghost_name }
+    ensures upper_bound { out.new.written ≤ out.old.written + 20 }
+    ensures put { Put out.old (decimal n) out.new }
 {
     let mut digits = [0u8; 20];
     let k = io::decimal(n, &mut digits);
-    put(out, at, &digits[..k])
+    out.put(&digits[..k]);
 }
 
-pub(crate) fn put_labelled(out: &mut [u8], at: usize, label: &[u8], n: u64) -> usize
-    requires { at + length label.now + 20 ≤ length out.old }
-    ensures upper_bound { result ≤ at + length label.now + 20 }
-    ensures wrote { Wrote out.old at (labelled label.now n) result out.new }
+pub(crate) fn put_labelled(out: &mut Output, label: &[u8], n: u64)
+    requires { out.old.written + length label.now + 20 ≤ length out.old.bytes.now }
+    ensures same { out.new.bytes.ghost_name ≡ out.old.bytes.ghost_name }
+    ensures upper_bound { out.new.written ≤ out.old.written + length label.now + 20 }
+    ensures put { Put out.old (labelled label.now n) out.new }
 {
-    let next = put(out, at, label);
-    put_decimal(out, next, n)
+    out.put(label);
+    put_decimal(out, n);
 }
 
-pub(crate) fn put_line(out: &mut [u8], at: usize, label: &[u8], n: u64) -> usize
-    requires { at + length label.now + 21 ≤ length out.old }
-    ensures upper_bound { result ≤ at + length label.now + 21 }
-    ensures wrote { Wrote out.old at (number_line label.now n) result out.new }
+pub(crate) fn put_line(out: &mut Output, label: &[u8], n: u64)
+    requires { out.old.written + length label.now + 21 ≤ length out.old.bytes.now }
+    ensures same { out.new.bytes.ghost_name ≡ out.old.bytes.ghost_name }
+    ensures upper_bound { out.new.written ≤ out.old.written + length label.now + 21 }
+    ensures put { Put out.old (number_line label.now n) out.new }
 {
-    let next = put_labelled(out, at, label, n);
-    put(out, next, b"\n")
+    put_labelled(out, label, n);
+    out.put(b"\n");
 }

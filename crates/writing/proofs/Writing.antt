@@ -1,11 +1,7 @@
 -- Laws of texts written at a place.
-use mathlib.Core.Path.{◌≡◌, sym, ap, ◌∙◌}
-use mathlib.Core.List.{List, [], ◌++◌, append_assoc}
-use Prim.Native.Nat.{ℕ, ◌+◌, ◌-◌, ◌≤◌}
-use native.Mathlib.Nat.{zero-add, add_assoc}
-use native.Mathlib.Omega.{arith}
-use lib.ListN.{length, take, drop, length-append, length-drop}
-use lib.Seq.{length-take-le, take_at, drop_at, drop-drop, paste, paste-zero, take-length}
+use Rattle.std.proofs.Common.{◌≡◌, sym, ap, ◌∙◌, List, [], ◌++◌, append_assoc, ℕ, ◌+◌, ◌-◌, ◌≤◌, zero-add, add_assoc, arith, length, take, drop}
+use Rattle.std.proofs.Common.{length-append, length-drop, length-take-le, take_at, drop_at, drop-drop, refl, append-nil, add-zero, take-append-drop}
+use borrow.Rule.Slice.PartMut.{put_mid, Post-is}
 use Rattle.writing.specs.Written.{written}
 use Rattle.writing.specs.Writing.{written_at, Wrote}
 
@@ -45,15 +41,21 @@ wrote_more {o} {o₁} {o₂} {at} {m} {n} {t} {u} w v =
           ∙ written_more o at t u fits;
     }
 
--- what a whole copy leaves
-pub paste_whole : (o : List ℕ) (at : ℕ) (t : List ℕ) (n : ℕ) → n ≡ length t → paste o at t n ≡ written_at o at t
+-- a text was copied over the part that it takes up
+pub wrote_part : {o t part : List ℕ} {at : ℕ} → at + length t ≤ length o → part ≡ t
+    → Wrote o at t (at + length t) (put_mid at (at + length t - at) o part)
 unfolding written_at
-paste_whole o at t n e = simp (e, take-length)
+wrote_part {o} {t} {part} {at} fits same =
+    record {
+      place = refl;
+      room = fits;
+      bytes = ap (λ (rest : List ℕ). take at o ++ (part ++ rest)) (Post-is at (at + length t) o (omega arith)) ∙ simp (same, append_assoc);
+    }
 
 -- nothing was written
 pub wrote_none : (o : List ℕ) (at : ℕ) → at ≤ length o → Wrote o at [] at o
 unfolding written_at
-wrote_none o at h = record { place = omega arith; room = h; bytes = paste-zero o at [] }
+wrote_none o at h = record { place = omega arith; room = h; bytes = sym (rw (append-nil, add-zero) (take-append-drop at o)) }
 
 -- a text at place 0 stands at the front
 pub wrote_front : {o o' : List ℕ} {n : ℕ} {t : List ℕ} → Wrote o 0 t n o' → (n ≡ length t) × ((o' ≡ written t o) × (n ≤ length o))

@@ -1,18 +1,35 @@
-// Texts written at a place of a lent output. For the layers above.
+// Texts written into a lent output, one after the other. For the layers above.
 #![tactic(auto)]
 
-ghost use Rattle.std.specs.Prelude.{◌+◌, ◌≤◌, length};
-ghost use Rattle.writing.specs.Writing.{Wrote};
+ghost use Rattle.std.specs.Prelude.{◌≡◌, ◌+◌, ◌≤◌, length};
+ghost use Rattle.writing.specs.Outputs.{Put};
 
-// Writes a text from place `at` on, and answers the place after it.
-pub fn put(out: &mut [u8], at: usize, text: &[u8]) -> usize
-    requires { at + length text.now ≤ length out.old }
-    ensures { Wrote out.old at text.now result out.new }
-{
-    let mut i = 0;
-    while i < text.len() {
-        out[at + i] = text[i];
-        i += 1;
+// A lent output, and how many of its bytes are written.
+#[derive(Drop)]
+pub struct Output<'a> {
+    pub bytes: &'a mut [u8],
+    pub written: usize,
+}
+
+impl<'a> Output<'a> {
+    // With nothing written yet.
+    pub fn new(bytes: &'a mut [u8]) -> Output<'a>
+        ensures same { result.bytes.ghost_name ≡ bytes.entry.ghost_name }
+        ensures bytes { result.bytes.now ≡ bytes.old }
+        ensures nothing { result.written ≡ 0 }
+    {
+        Output { bytes, written: 0 }
     }
-    at + i
+
+    // Writes a text after what is written.
+    #[tactic(auto, using(crate::proofs::Writing::wrote_part))]
+    pub fn put(&mut self, text: &[u8])
+        requires { self.old.written + length text.now ≤ length self.old.bytes.now }
+        ensures same { self.new.bytes.ghost_name ≡ self.old.bytes.ghost_name }
+        ensures put { Put self.old text.now self.new }
+    {
+        let end = self.written + text.len();
+        self.bytes[self.written..end].copy_from_slice(text);
+        self.written = end;
+    }
 }

@@ -1,29 +1,18 @@
-use Rattle.std.proofs.Common.{List, ℕ, subst, sym, arith}
+use Rattle.std.proofs.Common.{refl, sym, arith, rules}
 use Rattle.lines.specs.Lines.{input_lines}
-use Rattle.writing.specs.Writing.{Wrote}
-use Rattle.writing.proofs.Writing.{wrote_more, wrote_none}
+use Rattle.writing.proofs.Outputs.{put_none, put_more, put_as}
 use Rattle.lines.proofs.Inputs.{inputs_more}
 use Rattle.lines.proofs.put_inputs.Goals as goal
 
-pub loop-i-init : goal.loop-i-init
+pub loop-input-init : goal.loop-input-init
 unfolding input_lines
-loop-i-init c =
-    record {
-      wrote = wrote_none c.args.out.now c.args.at (omega arith);
-      upper_bound = omega arith;
-      within = omega arith;
-    }
+loop-input-init c = record { same = refl; upper_bound = omega arith; put = put_none c.args.out.now (omega arith) }
 
-pub loop-i-preserved : goal.loop-i-preserved
-loop-i-preserved c =
-    let p = c.put_input-next in
-    let l = c.loop-i in
-    let a = c.args in
+pub loop-input-preserved : goal.loop-input-preserved
+loop-input-preserved c =
+    let l = c.loop-input in
     record {
-      wrote =
-          subst (λ (t : List ℕ). Wrote a.out.now a.at t p.result p.new.out)
-          (sym (inputs_more a.inputs.now l.i (omega arith)))
-          (wrote_more l.invariant.wrote p.ensures.wrote);
+      same = search rules;
       upper_bound = omega arith;
-      within = omega arith;
+      put = put_as (sym (inputs_more c.args.inputs.now l.input-index (omega arith))) (put_more l.invariant.put c.put_line.ensures.put);
     }

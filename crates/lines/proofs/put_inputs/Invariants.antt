@@ -1,15 +1,12 @@
-use Rattle.std.proofs.Common.{◌+◌, ◌-◌, ◌*◌, ◌≤◌, length, take}
+use Rattle.std.proofs.Common.{◌≡◌, ◌+◌, ◌*◌, ◌≤◌, take}
 use Rattle.lines.specs.Lines.{input_lines}
-use Rattle.writing.specs.Writing.{Wrote}
+use Rattle.writing.specs.Outputs.{Put}
 use Rattle.lines.proofs.put_inputs.Given as goal
 
--- the inputs before `i` are written
-abbrev pub invariant-loop-i : goal.invariant-loop-i
-invariant-loop-i l = record {
-  wrote : Wrote l.initial.out l.at (input_lines (take l.i l.inputs)) l.next l.out;
-  upper_bound : l.next ≤ l.at + 27 * l.i;
-  within : l.i ≤ length l.inputs;
+-- the inputs so far are put
+abbrev pub invariant-loop-input : goal.invariant-loop-input
+invariant-loop-input l = record {
+  same : l.out.bytes.ghost_name ≡ l.initial.out.bytes.ghost_name;
+  upper_bound : l.out.written ≤ l.initial.out.written + 27 * l.input-index;
+  put : Put l.initial.out (input_lines (take l.input-index l.inputs)) l.out;
 }
-
-abbrev pub decreases-loop-i : goal.decreases-loop-i
-decreases-loop-i l = length l.inputs - l.i

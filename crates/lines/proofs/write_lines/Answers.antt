@@ -1,9 +1,11 @@
+use Rattle.std.proofs.Common.{rules}
 use Rattle.lines.specs.Lines.{lines}
-use Rattle.writing.proofs.Writing.{wrote_more, wrote_front}
+use Rattle.writing.proofs.Outputs.{put_more, put_front}
 use Rattle.lines.proofs.write_lines.Goals as goal
 
 pub returns : goal.returns
 unfolding lines
 returns c =
-    let w = wrote_front (wrote_more c.put_answer-first.ensures.wrote (wrote_more c.put_inputs-last.ensures.wrote c.put_line.ensures.wrote)) in
-    record { value = w.0; out_after = w.1.0; upper_bound = w.1.1 }
+    let new = c.new-output.ensures in
+    let front = put_front new.bytes new.nothing (put_more c.put_answer.ensures.put (put_more c.put_inputs.ensures.put c.put_line.ensures.put)) in
+    record { value = front.0; out_after = search (rules, front.1.0); upper_bound = front.1.1 }

@@ -1,5 +1,5 @@
-use Rattle.writing.proofs.Writing.{wrote_more}
+use Rattle.writing.proofs.Outputs.{put_more}
 use Rattle.lines.proofs.put.put_labelled.Goals as goal
 
-pub returns-clause-wrote : goal.returns-clause-wrote
-returns-clause-wrote c = wrote_more c.put-next.ensures c.put_decimal.ensures.wrote
+pub returns-clause-put : goal.returns-clause-put
+returns-clause-put c = put_more c.put.ensures.put c.put_decimal.ensures.put
