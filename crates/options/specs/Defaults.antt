@@ -1,4 +1,4 @@
--- The defaults: the Rust's, but for the number of states, which is 3000 there (change 2 of document 02).
+-- The defaults: the Rust's, but for the number of states, which is 3000 there.
 use Rattle.std.specs.Prelude.{ℕ}
 use Rattle.std.specs.Float.{binary64}
 use Rattle.std.specs.Float.Ieee.{of_bits}

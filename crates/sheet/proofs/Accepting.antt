@@ -1,5 +1,5 @@
 -- What is known of an accepted sheet: its parts lie within it, and its numbers within their limits.
-use Rattle.std.proofs.Common.{Result, Ok, Err, ◌≡◌, refl, Bool, true, false, cond, ◌||◌, List, ℕ, ◌+◌, ◌^◌, ◌<◌, ◌≤◌, arith, ltb, length, ltb-false}
+use Rattle.std.proofs.Common.{Result, Ok, Err, ◌≡◌, refl, Bool, true, false, cond, ◌||◌, List, ℕ, ◌^◌, ◌<◌, ◌≤◌, arith, ltb, length, ltb-false}
 use Rattle.laws.proofs.Choices.{neither}
 use Rattle.sheet.specs.Sheets.{fields_of, with_defaults, sheet_of, above_limit, part_past, fields_parsed, parsed}
 use Rattle.sheet.specs.Parts.{PartsWithin}
@@ -7,7 +7,7 @@ use Rattle.sheet.specs.declared.fields.Fields.{Fields}
 use Rattle.sheet.specs.declared.limits.Limits.{Limits}
 use Rattle.sheet.specs.declared.parse.Sheet.{Sheet}
 use Rattle.sheet.specs.declared.parse.SheetError.{SheetError}
-use Rattle.sheet.specs.declared.parse.SheetError.TheVariants.{SheetLength, PartPastEnd, UnknownMean, AboveLimit}
+use Rattle.sheet.specs.declared.parse.SheetError.TheVariants.{PartPastEnd, UnknownMean, AboveLimit}
 
 -- the numbers of a sheet are within their limits
 pub record Fitting (l : Limits) (h : Sheet) : Type 0 where
@@ -24,11 +24,11 @@ word32 x h = omega (arith, ltb-false 0xffff_ffff x h)
 -- 54 does not refuse some fields
 pub fitting : (l : Limits) (f : Fields) → above_limit l f ≡ false → Fitting l (sheet_of f)
 fitting l f h =
-    let a = neither (ltb 0xffff_ffff f.step) _ h in
-    let b = neither (ltb 0xffff_ffff f.selection) _ a.1 in
-    let c = neither (ltb 0xffff_ffff f.rounds) _ b.1 in
-    let d = neither (ltb l.states f.states) _ c.1 in
-    let e = neither (ltb l.memory f.memory) _ d.1 in
+    let a = neither _ _ h in
+    let b = neither _ _ a.1 in
+    let c = neither _ _ b.1 in
+    let d = neither _ _ c.1 in
+    let e = neither _ _ d.1 in
     record {
       step_fits = word32 _ a.0;
       selection_fits = word32 _ b.0;
@@ -41,8 +41,8 @@ fitting l f h =
 -- 52 does not
 in_bytes : (n : ℕ) (f : Fields) → part_past n f ≡ false → PartsWithin n (sheet_of f)
 in_bytes n f h =
-    let a = neither (ltb n (f.code_offset + f.code_length)) _ h in
-    let b = neither (ltb n (f.data_offset + f.data_length)) _ a.1 in
+    let a = neither _ _ h in
+    let b = neither _ _ a.1 in
     record { in_code = ltb-false _ _ a.0; in_data = ltb-false _ _ b.0; in_tape = ltb-false _ _ b.1 }
 
 -- a test that refuses did not hold of what is accepted
@@ -67,7 +67,7 @@ fields_passed l n f h e =
 module _ (l : Limits) (s : List ℕ) (h : Sheet) (accepted : parsed l s ≡ Ok h) where
   length_passed : ((ltb (length s) 128 || ltb l.bytes (length s)) ≡ false) × (fields_parsed l (length s) (with_defaults (fields_of s)) ≡ Ok h)
   unfolding parsed
-  length_passed = passed _ SheetLength _ h accepted
+  length_passed = passed _ _ _ h accepted
 
   pub accepted_passed : Passed l (length s) (with_defaults (fields_of s)) h
   accepted_passed = fields_passed _ _ _ h length_passed.1
@@ -79,4 +79,4 @@ module _ (l : Limits) (s : List ℕ) (h : Sheet) (accepted : parsed l s ≡ Ok h
   accepted_fitting = rw (← accepted_passed.is) (fitting l (with_defaults (fields_of s)) accepted_passed.limits)
 
   pub accepted_bytes : length s ≤ l.bytes
-  accepted_bytes = ltb-false _ _ (neither (ltb (length s) 128) _ length_passed.0).1
+  accepted_bytes = ltb-false _ _ (neither _ _ length_passed.0).1

@@ -1,4 +1,4 @@
--- The sheet ("The sheet" in document 01): sixteen little-endian fields, defaults, and what a sequence of bytes is as a sheet.
+-- The sheet (docs/SHEETS.md): sixteen little-endian fields, defaults, and what a sequence of bytes is as a sheet.
 use Rattle.std.specs.Prelude.{Result, Ok, Err, Bool, cond, ◌||◌, List, [], ◌∷◌, ◌++◌, ℕ, zero, suc, ◌+◌, ◌-◌, ◌*◌, ◌^◌, eqb, ltb, length, take, drop}
 use Rattle.std.specs.Float.{binary64}
 use Rattle.std.specs.Float.Ieee.{of_bits}

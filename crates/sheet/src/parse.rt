@@ -2,7 +2,7 @@
 ghost use Rattle.std.specs.Prelude.{◌≡◌, ◌+◌, ◌*◌, ◌^◌, ◌<◌, ltb};
 ghost use Rattle.sheet.specs.Sheets.{parsed, fields_parsed, part_past, above_limit, sheet_of, sheet_number};
 
-use crate::fields::{FIELDS_LENGTH, Fields, defaulted, read_fields};
+use crate::fields::{FIELDS_LENGTH, Fields};
 use crate::limits::Limits;
 use options::{RaritySimulationOptions, mean_numbered};
 use std::num::f64_from_bits_with_nan;
@@ -50,39 +50,7 @@ impl SheetError {
 }
 
 // Step, selection and rounds are 32-bit.
-const MOST: u64 = 0xffff_ffff;
-
-fn sheet_of(f: Fields) -> Sheet
-    requires step_bound { f.step < 2 ^ 32 }
-    requires selection_bound { f.selection < 2 ^ 32 }
-    requires rounds_bound { f.rounds < 2 ^ 32 }
-    ensures { result ≡ sheet_of f }
-{
-    Sheet {
-        options: RaritySimulationOptions {
-            memory_size: f.memory,
-            amount_of_states: f.states,
-            step_size: f.step as u32,
-            selection: f.selection as u32,
-            iterations: f.rounds as u32,
-            copy_init_ratio: f64_from_bits_with_nan(f.ratio),
-            mean: mean_numbered(f.mean),
-        },
-        log: f.log,
-        code: Part {
-            address: f.code_address,
-            offset: f.code_offset as usize,
-            length: f.code_length as usize,
-        },
-        data: Part {
-            address: f.data_address,
-            offset: f.data_offset as usize,
-            length: f.data_length as usize,
-        },
-        tape_offset: f.tape_offset as usize,
-        tape_words: f.tape_words as usize,
-    }
-}
+const MOST: u64 = u32::MAX as u64;
 
 // Whether so many bytes from the offset on reach past n bytes. In 64 bits the sum, and the bytes of so many words, could wrap.
 fn past(n: u64, offset: u64, bytes: u128) -> bool
@@ -92,38 +60,73 @@ fn past(n: u64, offset: u64, bytes: u128) -> bool
     (n as u128) < offset as u128 + bytes
 }
 
-fn part_past(n: u64, f: Fields) -> bool
-    ensures { result ≡ part_past n f }
-{
-    past(n, f.code_offset, f.code_length as u128)
-        || past(n, f.data_offset, f.data_length as u128)
-        || past(n, f.tape_offset, 8 * f.tape_words as u128)
-}
+impl Fields {
+    fn part_past(self, n: u64) -> bool
+        ensures { result ≡ part_past n self }
+    {
+        past(n, self.code_offset, self.code_length as u128)
+            || past(n, self.data_offset, self.data_length as u128)
+            || past(n, self.tape_offset, 8 * self.tape_words as u128)
+    }
 
-fn above_limit(limits: Limits, f: Fields) -> bool
-    ensures { result ≡ above_limit limits f }
-{
-    MOST < f.step
-        || MOST < f.selection
-        || MOST < f.rounds
-        || limits.states < f.states
-        || limits.memory < f.memory
-        || limits.log < f.log
-}
+    fn above_limit(self, limits: Limits) -> bool
+        ensures { result ≡ above_limit limits self }
+    {
+        MOST < self.step
+            || MOST < self.selection
+            || MOST < self.rounds
+            || limits.states < self.states
+            || limits.memory < self.memory
+            || limits.log < self.log
+    }
 
-fn parse_fields(limits: Limits, n: u64, f: Fields) -> Result<Sheet, SheetError>
-    ensures { result ≡ fields_parsed limits n f }
-{
-    if part_past(n, f) {
-        return Err(SheetError::PartPastEnd);
+    fn sheet(self) -> Sheet
+        requires step_bound { self.step < 2 ^ 32 }
+        requires selection_bound { self.selection < 2 ^ 32 }
+        requires rounds_bound { self.rounds < 2 ^ 32 }
+        ensures { result ≡ sheet_of self }
+    {
+        Sheet {
+            options: RaritySimulationOptions {
+                memory_size: self.memory,
+                amount_of_states: self.states,
+                step_size: self.step as u32,
+                selection: self.selection as u32,
+                iterations: self.rounds as u32,
+                copy_init_ratio: f64_from_bits_with_nan(self.ratio),
+                mean: mean_numbered(self.mean),
+            },
+            log: self.log,
+            code: Part {
+                address: self.code_address,
+                offset: self.code_offset as usize,
+                length: self.code_length as usize,
+            },
+            data: Part {
+                address: self.data_address,
+                offset: self.data_offset as usize,
+                length: self.data_length as usize,
+            },
+            tape_offset: self.tape_offset as usize,
+            tape_words: self.tape_words as usize,
+        }
     }
-    if 1 < f.mean {
-        return Err(SheetError::UnknownMean);
+
+    // What those of a sheet of n bytes ask for.
+    fn parse(self, limits: Limits, n: u64) -> Result<Sheet, SheetError>
+        ensures { result ≡ fields_parsed limits n self }
+    {
+        if self.part_past(n) {
+            return Err(SheetError::PartPastEnd);
+        }
+        if 1 < self.mean {
+            return Err(SheetError::UnknownMean);
+        }
+        if self.above_limit(limits) {
+            return Err(SheetError::AboveLimit);
+        }
+        Ok(self.sheet())
     }
-    if above_limit(limits, f) {
-        return Err(SheetError::AboveLimit);
-    }
-    Ok(sheet_of(f))
 }
 
 // What some bytes are as a sheet, or why they are none that the program takes. For the crate report.
@@ -135,5 +138,5 @@ pub fn parse(sheet: &[u8], limits: Limits) -> Result<Sheet, SheetError>
     if sheet.len() < FIELDS_LENGTH || limits.bytes < n {
         return Err(SheetError::SheetLength);
     }
-    parse_fields(limits, n, defaulted(read_fields(sheet)))
+    Fields::read(sheet).with_defaults().parse(limits, n)
 }
