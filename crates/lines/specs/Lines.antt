@@ -1,6 +1,6 @@
 -- What the bench program prints, as bytes (docs/SHEETS.md): `answer A row R pc P value V`, `input I` for each logged word
 -- that is told, `used T`, all decimal, each line ended by one line feed.
-use Rattle.std.specs.Prelude.{cond, List, [], ◌∷◌, ◌++◌, ℕ, zero, suc, ◌+◌, ◌/◌, ◌%◌, ltb}
+use Rattle.std.specs.Prelude.{codes, cond, List, [], ◌∷◌, ◌++◌, ℕ, zero, suc, ◌+◌, ◌/◌, ◌%◌, ltb}
 use Rattle.answers.specs.declared.answer.Answer.{Answer}
 
 -- the decimal digits of n, at most k of them; 48 is "0"
@@ -12,29 +12,23 @@ digits_up_to (suc k) n = cond (ltb n 10) ((48 + n) ∷ []) (digits_up_to k (n / 
 abbrev pub decimal : ℕ → List ℕ
 decimal n = digits_up_to 20 n
 
--- "answer "
 abbrev pub answer_label : List ℕ
-answer_label = 97 ∷ 110 ∷ 115 ∷ 119 ∷ 101 ∷ 114 ∷ 32 ∷ []
+answer_label = codes "answer "
 
--- " row "
 abbrev pub row_label : List ℕ
-row_label = 32 ∷ 114 ∷ 111 ∷ 119 ∷ 32 ∷ []
+row_label = codes " row "
 
--- " pc "
 abbrev pub pc_label : List ℕ
-pc_label = 32 ∷ 112 ∷ 99 ∷ 32 ∷ []
+pc_label = codes " pc "
 
--- " value "
 abbrev pub value_label : List ℕ
-value_label = 32 ∷ 118 ∷ 97 ∷ 108 ∷ 117 ∷ 101 ∷ 32 ∷ []
+value_label = codes " value "
 
--- "input "
 abbrev pub input_label : List ℕ
-input_label = 105 ∷ 110 ∷ 112 ∷ 117 ∷ 116 ∷ 32 ∷ []
+input_label = codes "input "
 
--- "used "
 abbrev pub used_label : List ℕ
-used_label = 117 ∷ 115 ∷ 101 ∷ 100 ∷ 32 ∷ []
+used_label = codes "used "
 
 abbrev pub line_feed : List ℕ
 line_feed = 10 ∷ []

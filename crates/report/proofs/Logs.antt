@@ -1,19 +1,15 @@
 -- The log of a row in the words of a store.
-use mathlib.Core.Path.{◌≡◌, sym, ap, ◌∙◌}
-use mathlib.Core.List.{List, []}
-use Prim.Native.Nat.{ℕ, ◌+◌, ◌*◌, ◌-◌, ◌≤◌, ◌<◌}
-use native.Mathlib.Nat.{add-sub_cancel_left}
-use native.Mathlib.Omega.{arith}
-use lib.ListN.{length, take, drop, get_or, length-drop, get_or-eq_default}
-use lib.Seq.{take-take, take_all, take-add, drop_at, drop-drop, get_or-take, get_or-drop, length-take-le}
+use Rattle.std.proofs.Common.{◌≡◌, sym, ap, ◌∙◌, List, [], ℕ, ◌+◌, ◌*◌, ◌-◌, ◌≤◌, ◌<◌, arith, length, take, drop, get_or, length-drop}
+use Rattle.std.proofs.Common.{take-add, drop_at, drop-drop, get_or-take, get_or-drop, length-take-le, min}
+use lib.ListN.{get_or-eq_default}
 use Rattle.rows.specs.Rows.{Row, row, header}
 use Rattle.store.specs.Store.{rows_of}
 use Rattle.store.specs.declared.layout.Layout.{Layout}
 use Rattle.store.proofs.Rows.{row_end, row_get, part_length, length_rows}
 use Rattle.report.specs.Reports.{log_of}
-use Rattle.sheet.specs.Sheets.{bench_limits}
-use Rattle.report.specs.Printing.{Lent, Told, log_at, part}
-use Rattle.report.specs.declared.inputs.Span.{Span}
+use Rattle.std.proofs.Common.{length-take}
+use Rattle.std.proofs.lemmas.List.{take_min}
+use Rattle.report.specs.Printing.{Lent, Told, log_at}
 
 -- to drop from a front is to take less
 drop_take : {A : Type 0} (k n : ℕ) (l : List A) → k ≤ length l → drop k (take (k + n) l) ≡ take n (drop k l)
@@ -50,47 +46,31 @@ module _ (s : Layout) (words : List ℕ) (lent : Lent s words) (i : ℕ) (h : i 
   count_of_log : get_or (take s.words (drop (i * s.words) words)) 4 0 ≡ count
   count_of_log = get_or-take s.words (drop (i * s.words) words) 4 0 (omega (arith, lent.start_of_log)) ∙ get_or-drop (i * s.words) words 4 0
 
-  log_is : (marks : List ℕ) → length marks ≡ s.rows * s.marks → take count (take room (drop start words)) ≡ log_at i (rows_of s words marks)
-  log_is marks e =
-      rw (row_get s.rows s.words s.marks i words marks h, part_length s.rows s.marks i marks h e, log_words, count_of_log)
+  -- the words of the log, as they are lent
+  abbrev log : List ℕ
+  log = take (i * s.words + s.words - start) (drop start words)
 
-  -- k words are told
-  told_log : (k : ℕ) → k ≤ room → take k (drop start words) ≡ take count (take room (drop start words))
-      → Told s words (log_at i) (record { from = start; to = start + k })
-  told_log k few same =
+  log_room : log ≡ take room (drop start words)
+  log_room = ap (λ (n : ℕ). take n (drop start words)) (omega (arith, lent.start_of_log))
+
+  log_is : (marks : List ℕ) → length marks ≡ s.rows * s.marks → take count log ≡ log_at i (rows_of s words marks)
+  log_is marks e =
+      rw (row_get s.rows s.words s.marks i words marks h, part_length s.rows s.marks i marks h e, log_words, count_of_log, log_room)
+
+  pub log_told : (k : ℕ) → k ≡ min count (length log) → Told s words (log_at i) (take k log)
+  log_told k e =
       record {
-        ordered = omega arith;
-        inside = omega (arith, row_inside, lent.start_of_log);
-        few = omega (arith, lent.room_of_log);
-        told = λ marks e. ap (λ (n : ℕ). take n (drop start words)) (add-sub_cancel_left start k) ∙ same ∙ log_is marks e;
+        few = omega (arith, length-take k log, length-take (i * s.words + s.words - start) (drop start words), lent.room_of_log);
+        are = λ marks m. ap (λ (n : ℕ). take n log) e ∙ take_min count log ∙ log_is marks m;
       }
 
-  pub log_counted : count < room → Told s words (log_at i) (record { from = start; to = start + count })
-  log_counted less = told_log count (omega arith) (sym (take-take count room (drop start words) (omega arith)))
-
-  pub log_full : room ≤ count → Told s words (log_at i) (record { from = start; to = start + room })
-  log_full more =
-      let all = length-take-le room (drop start words) (omega (arith, length-drop start words, row_inside, lent.start_of_log)) in
-      told_log room (omega arith) (sym (take_all count (take room (drop start words)) (omega arith)))
-
--- the log of a row ends within the words
-pub log_inside : {s : Layout} {words : List ℕ} {i : ℕ} → Lent s words → i < s.rows
-    → (i * s.words + s.words ≤ length words) × (header + s.marks ≤ s.words)
-log_inside {s} {words} {i} lent h = (row_inside s words lent i h, omega (arith, lent.start_of_log))
-
 -- nothing is told
-pub nowhere : (s : Layout) (words : List ℕ) (inputs : List Row → List ℕ) → ((marks : List ℕ) → inputs (rows_of s words marks) ≡ [])
-    → Told s words inputs (record { from = 0; to = 0 })
-nowhere s words inputs e = record { ordered = omega arith; inside = omega arith; few = omega arith; told = λ marks l. sym (e marks) }
+pub nothing_told : (s : Layout) (words : List ℕ) (inputs : List Row → List ℕ) → ((marks : List ℕ) → inputs (rows_of s words marks) ≡ [])
+    → Told s words inputs []
+nothing_told s words inputs e = record { few = omega arith; are = λ marks l. sym (e marks) }
 
 -- a row past the last one has no log
 pub no_log : (s : Layout) (words marks : List ℕ) (i : ℕ) → s.rows ≤ i → log_at i (rows_of s words marks) ≡ []
 no_log s words marks i h =
     let past : length (rows_of s words marks) ≤ i = omega (arith, length_rows s.rows s.words s.marks words marks) in
     ap log_of (get_or-eq_default (rows_of s words marks) (row [] []) past)
-
--- so few inputs are told
-pub part_few : {s : Layout} {words : List ℕ} {inputs : List Row → List ℕ} {p : Span} → Told s words inputs p → length (part p words) ≤ bench_limits.log
-part_few {s} {words} {inputs} {p} t =
-    let all = length-take-le (p.to - p.from) (drop p.from words) (omega (arith, t.inside, length-drop p.from words)) in
-    omega (arith, t.few, all)

@@ -1,10 +1,5 @@
 -- The store of an accepted sheet: its lengths, and its fronts of two arrays of zeros.
-use mathlib.Core.Path.{◌≡◌, ap, ◌∙◌}
-use mathlib.Core.List.{List}
-use Prim.Native.Nat.{ℕ, ◌*◌, ◌/◌, ◌≤◌}
-use native.Mathlib.Nat.{mul-le-mul}
-use native.Mathlib.Omega.{arith}
-use lib.ListN.{length}
+use Rattle.std.proofs.Common.{◌≡◌, ap, ◌∙◌, List, ℕ, ◌*◌, ◌/◌, ◌≤◌, mul-le-mul, arith, length, Ok}
 use Rattle.laws.proofs.Fronts.{front_alike}
 use Rattle.rows.specs.Rows.{row_words, row_marks}
 use Rattle.store.specs.Store.{rows_of}
@@ -14,7 +9,6 @@ use Rattle.search.specs.Entry.{Left, left, search_entry}
 use Rattle.search.specs.declared.answer.SearchAnswer.{SearchAnswer}
 use Rattle.sheet.specs.Sheets.{parsed, bench_limits, image_of, tape_of}
 use Rattle.sheet.specs.declared.parse.Sheet.{Sheet}
-use Rattle.sheet.specs.declared.parse.Parsed.TheVariants.{Accepted}
 use Rattle.sheet.proofs.Accepting.{accepted_fitting}
 use Rattle.report.specs.Reports.{sheet_left, search_printed}
 use Rattle.report.specs.Printing.{Lent, answer_lines}
@@ -27,7 +21,7 @@ most_words = bench_limits.states * row_words (bench_limits.memory / 8) bench_lim
 abbrev pub most_marks : ℕ
 most_marks = bench_limits.states * row_marks (bench_limits.memory / 8)
 
-module _ (s : List ℕ) (h : Sheet) (accepted : parsed bench_limits s ≡ Accepted h) where
+module _ (s : List ℕ) (h : Sheet) (accepted : parsed bench_limits s ≡ Ok h) where
   pub memory_few : h.options.memory_size / 8 ≤ bench_limits.memory / 8
   memory_few = omega (arith, (accepted_fitting bench_limits s h accepted).memory_fits)
 

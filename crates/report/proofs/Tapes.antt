@@ -1,13 +1,8 @@
 -- The tape of an accepted sheet, read to the front of an array of zeros.
-use mathlib.Core.Path.{◌≡◌, ap, ◌∙◌}
-use mathlib.Core.List.{List}
-use Prim.Native.Nat.{ℕ, ◌*◌, ◌-◌, ◌/◌, ◌≤◌}
-use native.Mathlib.Omega.{arith}
-use lib.ListN.{length, take, drop, length-drop}
+use Rattle.std.proofs.Common.{◌≡◌, ap, ◌∙◌, List, ℕ, ◌*◌, ◌-◌, ◌/◌, ◌≤◌, arith, length, take, drop, length-drop, Ok}
 use Rattle.laws.proofs.Parts.{to_end}
 use Rattle.sheet.specs.Sheets.{parsed, bench_limits, words_in, tape_of}
 use Rattle.sheet.specs.declared.parse.Sheet.{Sheet}
-use Rattle.sheet.specs.declared.parse.Parsed.TheVariants.{Accepted}
 use Rattle.sheet.proofs.Accepting.{accepted_within, accepted_bytes}
 use Rattle.report.proofs.Zeros.{lent, lent_length}
 
@@ -15,7 +10,7 @@ use Rattle.report.proofs.Zeros.{lent, lent_length}
 abbrev pub most_tape : ℕ
 most_tape = bench_limits.bytes / 8
 
-module _ (s : List ℕ) (h : Sheet) (accepted : parsed bench_limits s ≡ Accepted h) where
+module _ (s : List ℕ) (h : Sheet) (accepted : parsed bench_limits s ≡ Ok h) where
   pub tape_few : h.tape_words ≤ most_tape
   tape_few = omega (arith, (accepted_within bench_limits s h accepted).in_tape, accepted_bytes bench_limits s h accepted)
 

@@ -1,7 +1,5 @@
 -- What was printed, under another name of its text.
-use mathlib.Core.Path.{◌≡◌, sym, ap, ◌∙◌}
-use mathlib.Core.List.{List, []}
-use Prim.Native.Nat.{ℕ}
+use Rattle.std.proofs.Common.{◌≡◌, sym, ap, ◌∙◌, List, [], ℕ, Result, Ok, Err}
 use Rattle.answers.specs.Answers.{refused_answer}
 use Rattle.answers.specs.declared.answer.Answer.{Answer}
 use Rattle.lines.specs.Lines.{lines}
@@ -9,8 +7,6 @@ use Rattle.sheet.specs.Sheets.{parsed, bench_limits, sheet_number}
 use Rattle.sheet.specs.declared.limits.Limits.{Limits}
 use Rattle.sheet.specs.declared.parse.Sheet.{Sheet}
 use Rattle.sheet.specs.declared.parse.SheetError.{SheetError}
-use Rattle.sheet.specs.declared.parse.Parsed.{Parsed}
-use Rattle.sheet.specs.declared.parse.Parsed.TheVariants.{Refused, Accepted}
 use Rattle.report.specs.Reports.{search_printed, printed_by, printed}
 use Rattle.report.specs.Printing.{Printed}
 
@@ -21,14 +17,14 @@ pub told_lines : {a b : Answer} {inputs told : List ℕ} → a ≡ b → inputs 
 told_lines e f = rw (e, f)
 
 -- what a sheet is, by the code's limits and parse
-module _ (s : List ℕ) {l : Limits} {p : Parsed} (bench : l ≡ bench_limits) (parse : p ≡ parsed l s) where
-  pub sheet_is : {q : Parsed} → p ≡ q → parsed bench_limits s ≡ q
+module _ (s : List ℕ) {l : Limits} {p : Result Sheet SheetError} (bench : l ≡ bench_limits) (parse : p ≡ parsed l s) where
+  pub sheet_is : {q : Result Sheet SheetError} → p ≡ q → parsed bench_limits s ≡ q
   sheet_is e = ap (λ (k : Limits). parsed k s) (sym bench) ∙ sym parse ∙ e
 
-  pub refused_printed : {error : SheetError} → p ≡ Refused error → lines (refused_answer (sheet_number error)) [] ≡ printed s
+  pub refused_printed : {error : SheetError} → p ≡ Err error → lines (refused_answer (sheet_number error)) [] ≡ printed s
   unfolding printed_by
   refused_printed e = rw (sheet_is e)
 
-  pub accepted_printed : {h : Sheet} → p ≡ Accepted h → search_printed s h ≡ printed s
+  pub accepted_printed : {h : Sheet} → p ≡ Ok h → search_printed s h ≡ printed s
   unfolding printed_by
   accepted_printed e = rw (sheet_is e)

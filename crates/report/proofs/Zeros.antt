@@ -1,8 +1,6 @@
 -- The front of a local array of zeros.
-use mathlib.Core.Path.{◌≡◌, ap, ◌∙◌}
-use mathlib.Core.List.{List}
-use Prim.Native.Nat.{ℕ, ◌-◌, ◌≤◌}
-use lib.ListN.{length, take, drop, replicate, length-replicate}
+use Rattle.std.proofs.Common.{◌≡◌, ap, ◌∙◌, List, ℕ, ◌-◌, ◌≤◌, length, take, drop, replicate}
+use lib.ListN.{length-replicate}
 use Rattle.laws.proofs.Fronts.{front_alike}
 
 abbrev pub zeros : ℕ → List ℕ

@@ -1,5 +1,5 @@
--- A stepping stone between contracts: a text that was printed, the words of a store, and the inputs told from them.
-use Rattle.std.specs.Prelude.{◌≡◌, List, ℕ, ◌+◌, ◌*◌, ◌-◌, ◌≤◌, length, take, drop}
+-- A stepping stone between contracts: a text that was printed, the words of a store, and the inputs that are told from them.
+use Rattle.std.specs.Prelude.{◌≡◌, List, ℕ, ◌+◌, ◌*◌, ◌≤◌, length}
 use Rattle.rows.specs.Rows.{Row, header}
 use Rattle.store.specs.Store.{rows_of, nth_row}
 use Rattle.store.specs.declared.layout.Layout.{Layout}
@@ -9,7 +9,6 @@ use Rattle.search.specs.Entry.{search_answer}
 use Rattle.search.specs.declared.answer.SearchAnswer.{SearchAnswer}
 use Rattle.sheet.specs.Sheets.{bench_limits}
 use Rattle.report.specs.Reports.{most_printed, log_of, told_inputs}
-use Rattle.report.specs.declared.inputs.Span.{Span}
 
 -- a text at the front of an output that held out before, and how many bytes it has
 pub record Printed (text out out' : List ℕ) (count : ℕ) : Type 0 where
@@ -23,15 +22,10 @@ pub record Lent (s : Layout) (words : List ℕ) : Type 0 where
   pub start_of_log : s.marks + header ≤ s.words
   pub room_of_log : s.words ≤ s.marks + header + bench_limits.log
 
-abbrev pub part : Span → List ℕ → List ℕ
-part p words = take (p.to - p.from) (drop p.from words)
-
--- at most a full log of words of a store holds what is told of its rows, whatever their marks are
-pub record Told (s : Layout) (words : List ℕ) (inputs : List Row → List ℕ) (p : Span) : Type 0 where
-  pub ordered : p.from ≤ p.to
-  pub inside : p.to ≤ length words
-  pub few : p.to ≤ p.from + bench_limits.log
-  pub told : (marks : List ℕ) → length marks ≡ s.rows * s.marks → part p words ≡ inputs (rows_of s words marks)
+-- at most a full log of inputs are told of a store's rows, whatever their marks are
+pub record Told (s : Layout) (words : List ℕ) (inputs : List Row → List ℕ) (told : List ℕ) : Type 0 where
+  pub few : length told ≤ bench_limits.log
+  pub are : (marks : List ℕ) → length marks ≡ s.rows * s.marks → told ≡ inputs (rows_of s words marks)
 
 -- what is told of a row, and what is printed of an answer, by the rows
 abbrev pub log_at : ℕ → List Row → List ℕ

@@ -1,5 +1,5 @@
--- From the bytes of a sheet to the printed bytes ("The sheet" in document 01): the sheet, the search and the lines joined.
-use Rattle.std.specs.Prelude.{List, [], ℕ, ◌+◌, ◌*◌, ◌/◌, take, drop, replicate}
+-- From the bytes of a sheet to the printed bytes (docs/SHEETS.md): the sheet, the search and the lines joined.
+use Rattle.std.specs.Prelude.{Result, Ok, Err, List, [], ℕ, ◌+◌, ◌*◌, ◌/◌, take, drop, replicate}
 use Rattle.answers.specs.Answers.{refused_answer}
 use Rattle.rows.specs.Rows.{Row, row_words, row_marks, log_count, log_start}
 use Rattle.store.specs.Store.{rows_of, nth_row}
@@ -12,8 +12,7 @@ use Rattle.search.specs.declared.answer.SearchAnswer.TheVariants.{Refused, Searc
 use Rattle.lines.specs.Lines.{lines}
 use Rattle.sheet.specs.Sheets.{parsed, bench_limits, sheet_number, image_of, tape_of}
 use Rattle.sheet.specs.declared.parse.Sheet.{Sheet}
-use Rattle.sheet.specs.declared.parse.Parsed.{Parsed}
-use Rattle.sheet.specs.declared.parse.Parsed.TheVariants as sheet
+use Rattle.sheet.specs.declared.parse.SheetError.{SheetError}
 
 -- a buffer for a sheet has one byte more than a sheet may have
 abbrev pub sheet_buffer : ℕ
@@ -52,9 +51,9 @@ search_printed s h =
     lines (search_answer x.answer) (told_inputs x.answer (rows_of (layout_of h.options h.log) x.words x.marks))
 
 -- a refused sheet prints zeros after its number
-unfoldable pub printed_by : List ℕ → Parsed → List ℕ
-printed_by s (sheet.Refused e) = lines (refused_answer (sheet_number e)) []
-printed_by s (sheet.Accepted h) = search_printed s h
+unfoldable pub printed_by : List ℕ → Result Sheet SheetError → List ℕ
+printed_by s (Err e) = lines (refused_answer (sheet_number e)) []
+printed_by s (Ok h) = search_printed s h
 
 -- what the bench program prints
 abbrev pub printed : List ℕ → List ℕ

@@ -8,51 +8,40 @@ use rows::row::{HEADER, LOG_COUNT};
 use search::answer::SearchAnswer;
 use store::layout::Layout;
 
-// From one place to before another.
+// The words of a store whose rows have a header and at most as many log words as a sheet may ask for.
 #[derive(Clone, Copy)]
-pub struct Span {
-    pub from: usize,
-    pub to: usize,
+pub(crate) struct StoreWords<'a> {
+    pub(crate) store: Layout,
+    pub(crate) words: &'a [u64],
+    ghost lent: { Lent store words.now },
 }
 
-const NOWHERE: Span = Span { from: 0, to: 0 };
-
-// A row's log. Its count is never above its room, but no law of that is needed: the words end there.
-fn log_of(store: Layout, words: &[u64], row: usize) -> Span
-    requires lent { Lent store words.now }
-    requires row_lt_rows { row < store.rows }
-    ensures { Told store words.now (log_at row) result }
-{
-    let at = row * store.words;
-    let from = at + HEADER + store.marks;
-    let room = store.words - HEADER - store.marks;
-    let count = words[at + LOG_COUNT] as usize;
-    if count < room {
-        Span {
-            from,
-            to: from + count,
-        }
-    } else {
-        Span {
-            from,
-            to: from + room,
-        }
+impl<'a> StoreWords<'a> {
+    // A row's log. Its count is never above its room, but no law of that is needed: the words end there.
+    fn log(self, row: usize) -> &'a [u64]
+        requires { row < self.store.rows }
+        ensures { Told self.entry.store self.entry.words.now (log_at row) result.now }
+    {
+        let at = row * self.store.words;
+        let room = &self.words[at + HEADER + self.store.marks..at + self.store.words];
+        let count = self.words[at + LOG_COUNT] as usize;
+        &room[..count.min(room.len())]
     }
-}
 
-pub(crate) fn told_inputs(answer: SearchAnswer, store: Layout, words: &[u64]) -> Span
-    requires { Lent store words.now }
-    ensures { Told store words.now (told_inputs answer) result }
-{
-    let SearchAnswer::Searched { finding, used: _ } = answer else {
-        return NOWHERE;
-    };
-    let Finding::Found { bug: _, row, pc: _ } = finding else {
-        return NOWHERE;
-    };
-    if row < store.rows {
-        log_of(store, words, row)
-    } else {
-        NOWHERE
+    // The inputs that an answer tells.
+    pub(crate) fn told(self, answer: SearchAnswer) -> &'a [u64]
+        ensures { Told self.entry.store self.entry.words.now (told_inputs answer) result.now }
+    {
+        let SearchAnswer::Searched { finding, .. } = answer else {
+            return &[];
+        };
+        let Finding::Found { row, .. } = finding else {
+            return &[];
+        };
+        if row < self.store.rows {
+            self.log(row)
+        } else {
+            &[]
+        }
     }
 }

@@ -2,27 +2,26 @@
 // caller.
 #![tactic(auto)]
 
-ghost use Rattle.std.specs.Prelude.{◌≡◌, List, [], ℕ, ◌*◌, ◌≤◌, length, take};
+ghost use Rattle.std.specs.Prelude.{◌≡◌, Ok, List, [], ℕ, ◌*◌, ◌≤◌, length, take};
 ghost use Rattle.answers.specs.Answers.{refused_answer};
 ghost use Rattle.writing.specs.Written.{written};
 ghost use Rattle.lines.specs.Lines.{lines};
 ghost use Rattle.sheet.specs.Sheets.{parsed, bench_limits, sheet_number};
-ghost use Rattle.sheet.specs.declared.parse.Parsed.TheVariants.{Accepted};
 ghost use Rattle.store.specs.Store.{rows_of};
 ghost use Rattle.report.specs.Reports.{sheet_buffer, most_printed, printed, search_printed};
-ghost use Rattle.report.specs.Printing.{Printed, Lent, answer_lines};
+ghost use Rattle.report.specs.Printing.{Printed, answer_lines};
 
 mod inputs;
 mod searching;
 
 use answers::answer::Answer;
-use inputs::told_inputs;
+use inputs::StoreWords;
 use lines::write_lines;
 use rows::row::{HEADER, REGISTERS};
 use search::answer::SearchAnswer;
 use searching::search_sheet;
 use sheet::limits::{Limits, MOST_LOG, MOST_MEMORY, MOST_SHEET, MOST_STATES};
-use sheet::parse::{Parsed, Sheet, SheetError, parse};
+use sheet::parse::{Sheet, SheetError, parse};
 use store::layout::Layout;
 
 // A buffer for a sheet has one byte more than a sheet may have, so that a longer one is seen.
@@ -42,30 +41,20 @@ const MOST_MARKS: usize = MOST_STATES * ROW_MARKS;
 fn report_refusal(error: SheetError, out: &mut [u8; MOST_PRINTED]) -> usize
     ensures { Printed (lines (refused_answer (sheet_number error)) []) out.old out.new result }
 {
-    let none = [0u64; 0];
-    write_lines(Answer::refused(error.number()), &none, out)
+    write_lines(Answer::refused(error.number()), &[], out)
 }
 
 // Prints an answer, and the inputs that it tells from the words of its store.
-fn report_answer(
-    answer: SearchAnswer,
-    store: Layout,
-    words: &[u64],
-    out: &mut [u8; MOST_PRINTED],
-) -> usize
-    requires { Lent store words.now }
-    ensures { (marks : List ℕ) → length marks ≡ store.rows * store.marks
-        → Printed (answer_lines answer (rows_of store words.now marks)) out.old out.new result }
+fn report_answer(answer: SearchAnswer, words: StoreWords, out: &mut [u8; MOST_PRINTED]) -> usize
+    ensures { let store = words.entry.store in (marks : List ℕ) → length marks ≡ store.rows * store.marks
+        → Printed (answer_lines answer (rows_of store words.entry.words.now marks)) out.old out.new result }
 {
-    let told = told_inputs(answer, store, words);
-    let from = told.from;
-    let to = told.to;
-    write_lines(answer.answer(), &words[from..to], out)
+    write_lines(answer.answer(), words.told(answer), out)
 }
 
 // The search, on a store of just the lengths that the sheet asks for.
 fn report_search(sheet: &[u8], asked: Sheet, out: &mut [u8; MOST_PRINTED]) -> usize
-    requires { parsed bench_limits sheet.now ≡ Accepted asked }
+    requires { parsed bench_limits sheet.now ≡ Ok asked }
     ensures { Printed (search_printed sheet.now asked) out.old out.new result }
 {
     let options = asked.options;
@@ -79,16 +68,19 @@ fn report_search(sheet: &[u8], asked: Sheet, out: &mut [u8; MOST_PRINTED]) -> us
     let mut words = [0; MOST_WORDS];
     let mut marks = [0; MOST_MARKS];
     let answer = search_sheet(sheet, asked, &mut words[0..n], &mut marks[0..m]);
-    report_answer(answer, store, &words[0..n], out)
+    let words = StoreWords {
+        store,
+        words: &words[0..n],
+    };
+    report_answer(answer, words, out)
 }
 
 fn report_sheet(sheet: &[u8], out: &mut [u8; MOST_PRINTED]) -> usize
     ensures { Printed (printed sheet.now) out.old out.new result }
 {
-    let parsed = parse(sheet, Limits::bench());
-    match parsed {
-        Parsed::Refused(error) => report_refusal(error, out),
-        Parsed::Accepted(asked) => report_search(sheet, asked, out),
+    match parse(sheet, Limits::bench()) {
+        Ok(asked) => report_search(sheet, asked, out),
+        Err(error) => report_refusal(error, out),
     }
 }
 
@@ -100,10 +92,5 @@ pub fn report(sheet: &[u8; SHEET_BUFFER], n: usize, out: &mut [u8; MOST_PRINTED]
     ensures upper_bound { result ≤ most_printed }
     ensures sheet_len { length sheet.now ≡ sheet_buffer }
 {
-    let buffer: &[u8] = sheet;
-    if n < buffer.len() {
-        report_sheet(&buffer[..n], out)
-    } else {
-        report_sheet(buffer, out)
-    }
+    report_sheet(&sheet[..n.min(SHEET_BUFFER)], out)
 }

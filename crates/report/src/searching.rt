@@ -1,9 +1,8 @@
 // The search that a sheet asks for, on a lent store.
-ghost use Rattle.std.specs.Prelude.{◌≡◌, length};
+ghost use Rattle.std.specs.Prelude.{◌≡◌, Ok, length};
 ghost use Rattle.search.specs.Entry.{left, search_entry};
 ghost use Rattle.sheet.specs.Sheets.{parsed, bench_limits, image_of, tape_of};
 ghost use Rattle.sheet.specs.Parts.{PartsWithin};
-ghost use Rattle.sheet.specs.declared.parse.Parsed.TheVariants.{Accepted};
 
 use search::answer::SearchAnswer;
 use search::search_for_bugs;
@@ -29,19 +28,15 @@ fn search_with(
     let options = asked.options;
     let code = asked.code;
     let data = asked.data;
-    let code_from = code.offset;
-    let code_to = code.offset + code.length;
-    let data_from = data.offset;
-    let data_to = data.offset + data.length;
     search_for_bugs(
         words,
         marks,
         options,
         asked.log,
         code.address,
-        &sheet[code_from..code_to],
+        &sheet[code.offset..code.offset + code.length],
         data.address,
-        &sheet[data_from..data_to],
+        &sheet[data.offset..data.offset + data.length],
         tape,
     )
 }
@@ -52,14 +47,13 @@ pub(crate) fn search_sheet(
     words: &mut [u64],
     marks: &mut [u8],
 ) -> SearchAnswer
-    requires { parsed bench_limits sheet.now ≡ Accepted asked }
+    requires { parsed bench_limits sheet.now ≡ Ok asked }
     ensures { left words.new marks.new result
         ≡ search_entry asked.options asked.log (image_of sheet.now asked) (tape_of sheet.now asked)
         words.old marks.old }
 {
     let mut tape = [0; MOST_TAPE];
-    let from = asked.tape_offset;
     let n = asked.tape_words;
-    read_words(&sheet[from..], &mut tape[0..n]);
+    read_words(&sheet[asked.tape_offset..], &mut tape[0..n]);
     search_with(sheet, asked, &tape[0..n], words, marks)
 }

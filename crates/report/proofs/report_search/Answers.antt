@@ -25,14 +25,14 @@ slice_bounds-words-end c = omega (arith, words_few c.args.sheet.now c.args.asked
 pub slice_bounds-marks-end : goal.slice_bounds-marks-end
 slice_bounds-marks-end c = omega (arith, marks_few c.args.sheet.now c.args.asked c.requires c.new-store.ensures)
 
-pub report_answer-requires : goal.report_answer-requires
-report_answer-requires c =
+pub invariant_of-words : goal.invariant_of-words
+invariant_of-words c =
     let s = c.args.sheet.now in
     let h = c.args.asked in
     let x = c.search_sheet-answer in
     let new = c.new-store in
     let few = words_few s h c.requires new.ensures in
-    rw (front_part (new.result.rows * new.result.words) (zeros most_words) x.new.words few x.auto.words) (words_lent s h c.requires new.ensures x.new.words x.auto.words)
+    rw (front_part (new.result.rows * new.result.words) (zeros most_words) x.new.words few x.auto.words) (record { lent = words_lent s h c.requires new.ensures x.new.words x.auto.words })
 
 pub returns : goal.returns
 returns c =
