@@ -1,7 +1,7 @@
 -- The tape of an accepted sheet, read to the front of an array of zeros.
-use Rattle.std.proofs.Common.{◌≡◌, ap, ◌∙◌, List, ℕ, ◌*◌, ◌-◌, ◌/◌, ◌≤◌, arith, length, take, drop, length-drop, Ok}
+use Rattle.std.proofs.Common.{◌≡◌, List, ℕ, ◌*◌, ◌-◌, ◌/◌, ◌≤◌, arith, length, take, drop, length-drop, Ok}
 use Rattle.laws.proofs.Parts.{to_end}
-use Rattle.sheet.specs.Sheets.{parsed, bench_limits, words_in, tape_of}
+use Rattle.sheet.specs.Sheets.{parsed, bench_limits}
 use Rattle.sheet.specs.declared.parse.Sheet.{Sheet}
 use Rattle.sheet.proofs.Accepting.{accepted_within, accepted_bytes}
 use Rattle.report.proofs.Zeros.{lent, lent_length}
@@ -23,11 +23,3 @@ module _ (s : List ℕ) (h : Sheet) (accepted : parsed bench_limits s ≡ Ok h) 
   tape_room =
       rw (lent_length h.tape_words most_tape tape_few, to_end h.tape_offset s)
       (omega (arith, (accepted_within bench_limits s h accepted).in_tape, length-drop h.tape_offset s))
-
-  pub tape_read : {tape : List ℕ}
-      → tape ≡ words_in (length (lent h.tape_words most_tape)) (take (length s - h.tape_offset) (drop h.tape_offset s))
-      → tape ≡ tape_of s h
-  tape_read e =
-      e
-      ∙ ap (λ (n : ℕ). words_in n (take (length s - h.tape_offset) (drop h.tape_offset s))) (lent_length h.tape_words most_tape tape_few)
-      ∙ ap (λ (l : List ℕ). words_in h.tape_words l) (to_end h.tape_offset s)
