@@ -1,8 +1,5 @@
 -- A program that passes 6 and 7 fits.
-use mathlib.Core.Path.{◌≡◌}
-use mathlib.Core.Bool.{true}
-use Prim.Native.Nat.{ℕ}
-use lib.ListN.{length}
+use Rattle.std.proofs.Common.{◌≡◌, true, ℕ, length}
 use Rattle.laws.proofs.Choices.{parts}
 use Rattle.loader.specs.Loading.{Program, Segment, Fits}
 use Rattle.checks.specs.Refusals.{is_whole, is_inside}

@@ -1,10 +1,6 @@
 -- What an entry knows from a test that passed.
-use mathlib.Core.Path.{◌≡◌}
-use mathlib.Core.Bool.{true, ◌&&◌, and-eq-true_iff}
-use Prim.Native.Nat.{ℕ, ◌+◌, ◌*◌, ◌/◌, ◌%◌, ◌^◌, ◌<◌, ◌≤◌}
-use native.Mathlib.Omega.{arith}
-use borrow.Author.Tests.{eqb-true, leb-true, ne_eqb}
-use lib.Dec.{eqb, leb}
+use Rattle.std.proofs.Common.{◌≡◌, true, ◌&&◌, ℕ, ◌+◌, ◌*◌, ◌/◌, ◌%◌, ◌^◌, ◌<◌, ◌≤◌, arith, eqb-true, leb-true, ne_eqb, eqb, leb}
+use mathlib.Core.Bool.{and-eq-true_iff}
 use Rattle.rows.specs.Limits.{most_rows, most_memory, most_log, memory_unit, most_memory_bytes}
 use Rattle.rows.specs.Rows.{Row, row_words, row_marks, limit_of}
 use Rattle.rows.specs.Valid.{sound_row, valid_row}

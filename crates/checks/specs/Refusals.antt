@@ -1,13 +1,11 @@
--- What an entry refuses before it changes anything ("Where each number is given" in document 01), one test a number.
-use Rattle.std.specs.Prelude.{Bool, ◌&&◌, ◌||◌, ℕ, ◌+◌, ◌*◌, ◌/◌, ◌%◌, eqb, leb, pos, Float}
+-- What an entry refuses before it changes anything, one test a number.
+use Rattle.std.specs.Prelude.{Result, Ok, Err, Bool, ◌&&◌, ◌||◌, ℕ, ◌+◌, ◌*◌, ◌/◌, ◌%◌, eqb, leb, pos, Float}
 use Rattle.std.specs.Float.{binary64}
 use Rattle.std.specs.Float.Ieee.{of_int, le}
 use Rattle.rows.specs.Limits.{most_rows, memory_unit, most_memory_bytes, most_log}
 use Rattle.rows.specs.Rows.{row_words, row_marks}
 use Rattle.checks.specs.declared.refusal.Refusal.{Refusal}
 use Rattle.checks.specs.declared.refusal.Refusal.TheVariants.{MemorySize, AmountOfStates, CopyRatio, LogSize, LentLengths, SegmentLength, SegmentEnd, InvalidRow}
-use Rattle.checks.specs.declared.refusal.Checked.{Checked}
-use Rattle.checks.specs.declared.refusal.Checked.TheVariants.{Accepted, Refused}
 
 abbrev pub refusal_number : Refusal → ℕ
 refusal_number MemorySize = 1
@@ -20,9 +18,9 @@ refusal_number SegmentEnd = 7
 refusal_number InvalidRow = 9
 
 -- a refusal's number, 0 for an accepted call
-abbrev pub checked_number : Checked → ℕ
-checked_number Accepted = 0
-checked_number (Refused f) = refusal_number f
+abbrev pub checked_number : Result (Unit {0}) Refusal → ℕ
+checked_number (Ok t) = 0
+checked_number (Err f) = refusal_number f
 
 -- 1: memory not a multiple of 1024 in 1024 to 1,048,576
 abbrev pub is_memory_size : ℕ → Bool

@@ -1,8 +1,9 @@
 // Refusals by number, and the tests for all but 9.
-ghost use Rattle.std.specs.Prelude.{◌≡◌, ◌≤◌};
+ghost use Rattle.std.specs.Prelude.{◌≡◌, ◌≤◌, [], ◌∷◌};
 ghost use Rattle.rows.specs.Limits.{most_rows, most_memory, most_log};
 ghost use Rattle.checks.specs.Refusals.{refusal_number, checked_number, is_memory_size, is_amount_of_states, is_copy_ratio};
 ghost use Rattle.checks.specs.Refusals.{is_log_size, are_lengths, is_whole, is_inside};
+ghost use Rattle.checks.specs.Tests.{test, checked_by};
 
 use rows::limits::{MEMORY_UNIT, MOST_LOG, MOST_MEMORY_BYTES, MOST_ROWS};
 use rows::row::{HEADER, REGISTERS};
@@ -20,15 +21,8 @@ pub enum Refusal {
     InvalidRow,
 }
 
-// What the tests of an entry come to.
-#[derive(Clone, Copy)]
-pub enum Checked {
-    Accepted,
-    Refused(Refusal),
-}
-
 impl Refusal {
-    // Document 01's number.
+    // The number that hosts are told.
     pub fn number(self) -> u64
         ensures { result ≡ refusal_number self }
     {
@@ -45,29 +39,29 @@ impl Refusal {
     }
 }
 
-impl Checked {
-    // The refusal's number, 0 for an accepted call.
-    pub fn number(self) -> u64
-        ensures { result ≡ checked_number self }
-    {
-        match self {
-            Checked::Accepted => 0,
-            Checked::Refused(refusal) => refusal.number(),
-        }
+// The refusal's number, 0 for an accepted call.
+pub fn checked_number(checked: Result<(), Refusal>) -> u64
+    ensures { result ≡ checked_number checked }
+{
+    match checked {
+        Ok(()) => 0,
+        Err(refusal) => refusal.number(),
     }
+}
+
+// One test of an entry: the refusal that it gives where it fails.
+#[tactic(auto, unfolding(crate::specs::Tests::checked_by))]
+pub fn test(passes: bool, refusal: Refusal) -> Result<(), Refusal>
+    ensures { result ≡ checked_by (test passes refusal ∷ []) }
+{
+    if passes { Ok(()) } else { Err(refusal) }
 }
 
 // 1: a multiple of 1 KiB, up to 1 MiB.
 pub fn is_memory_size(bytes: u64) -> bool
     ensures { result ≡ is_memory_size bytes }
 {
-    if bytes % MEMORY_UNIT != 0 {
-        return false;
-    }
-    if bytes < MEMORY_UNIT {
-        return false;
-    }
-    bytes <= MOST_MEMORY_BYTES
+    bytes % MEMORY_UNIT == 0 && MEMORY_UNIT <= bytes && bytes <= MOST_MEMORY_BYTES
 }
 
 // 2.

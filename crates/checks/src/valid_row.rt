@@ -14,33 +14,20 @@ fn slot_valid(word: u64, mark: u8) -> bool
     if mark == 0 { word == 0 } else { mark == 1 }
 }
 
-fn slots_valid(words: &[u64], marks: &[u8]) -> bool
-    requires { Shape words.now marks.now }
-    ensures { result ≡ slots_valid (drop header words.now) marks.now }
+fn slots_valid(slots: &[u64], marks: &[u8]) -> bool
+    requires { length marks.now ≤ length slots.now }
+    ensures { result ≡ slots_valid slots.now marks.now }
 {
-    let mut n = 0;
-    while n < marks.len() {
-        if !slot_valid(words[HEADER + n], marks[n]) {
-            return false;
-        }
-        n += 1;
-    }
-    true
+    slots
+        .iter()
+        .zip(marks)
+        .all(|(word, mark)| slot_valid(*word, *mark))
 }
 
-// Whether all words from place i on are 0.
-fn all_zero(words: &[u64], i: usize) -> bool
-    requires { i ≤ length words.now }
-    ensures { result ≡ all_zero (drop i words.now) }
+fn all_zero(words: &[u64]) -> bool
+    ensures { result ≡ all_zero words.now }
 {
-    let mut k = i;
-    while k < words.len() {
-        if words[k] != 0 {
-            return false;
-        }
-        k += 1;
-    }
-    true
+    words.iter().all(|word| *word == 0)
 }
 
 fn zero_register(words: &[u64], marks: &[u8]) -> bool
@@ -58,16 +45,10 @@ fn sound_row(words: &[u64], marks: &[u8]) -> bool
     let log = marks.len() + HEADER;
     let room = (words.len() - log) as u64;
     let count = words[LOG_COUNT];
-    if !slots_valid(words, marks) {
-        return false;
-    }
-    if room < count {
-        return false;
-    }
-    if !all_zero(words, log + count as usize) {
-        return false;
-    }
-    zero_register(words, marks)
+    slots_valid(&words[HEADER..], marks)
+        && count <= room
+        && all_zero(&words[log + count as usize..])
+        && zero_register(words, marks)
 }
 
 // The whole test.
@@ -76,8 +57,5 @@ pub fn valid_row(words: &[u64], marks: &[u8]) -> bool
     requires { Shape words.now marks.now }
     ensures { result ≡ valid_row (row words.now marks.now) }
 {
-    if !sound_row(words, marks) {
-        return false;
-    }
-    words[LIMIT] <= MOST_LIMIT
+    sound_row(words, marks) && words[LIMIT] <= MOST_LIMIT
 }

@@ -1,12 +1,10 @@
-use Rattle.std.proofs.Common.{◌∙◌, arith}
-use Rattle.checks.proofs.Scans.{zero_passed, zero_failed, zeros_passed}
+use Rattle.std.proofs.Common.{◌∙◌, eqb, rules, tests}
+use Rattle.std.proofs.lemmas.Iterator.{YieldsList-from_slice}
+use Rattle.std.proofs.lemmas.Iterator.Search.{all_from_yields_List}
+use Rattle.checks.proofs.Scans.{zeros}
 use Rattle.checks.proofs.valid_row.all_zero.Goals as goal
 
-pub returns-then-words-k-ne0 : goal.returns-then-words-k-ne0
-returns-then-words-k-ne0 c = zero_failed _ _ c.loop-k-test.true c.if-words-k-ne0.true ∙ c.loop-k.invariant.1
-
-pub loop-k-preserved : goal.loop-k-preserved
-loop-k-preserved c = (omega arith, zero_passed _ _ c.loop-k-test.true c.if-words-k-ne0.false ∙ c.loop-k.invariant.1)
-
 pub returns : goal.returns
-returns c = zeros_passed _ _ c.loop-k-test.false ∙ c.loop-k.invariant.1
+returns c =
+    let words = c.args.words.now in
+    all_from_yields_List (λ x. eqb x 0) _ _ _ c.all.ensures.ran (YieldsList-from_slice words cc) (λ x b q k. search (rules, tests)) ∙ zeros words

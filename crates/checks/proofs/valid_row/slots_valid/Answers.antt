@@ -1,13 +1,15 @@
-use Rattle.std.proofs.Common.{◌∙◌, arith}
-use Rattle.checks.proofs.Scans.{slot_passed, slot_failed, slots_passed}
+use Rattle.std.proofs.Common.{◌∙◌, ℕ, rules, tests}
+use Rattle.std.proofs.lemmas.Iterator.{YieldsList-from_slice, YieldsList-from_zip}
+use Rattle.std.proofs.lemmas.Iterator.Search.{all_from_yields_List}
+use Rattle.rows.specs.Valid.{slot_valid}
+use Rattle.checks.proofs.Scans.{slots}
 use Rattle.checks.proofs.valid_row.slots_valid.Goals as goal
 
-pub returns-then-not-slot_valid : goal.returns-then-not-slot_valid
-returns-then-not-slot_valid c = slot_failed _ _ _ _ c.loop-n-test.true (omega arith) c.slot_valid.ensures (cc) ∙ c.loop-n.invariant.1
-
-pub loop-n-preserved : goal.loop-n-preserved
-loop-n-preserved c =
-    (omega arith, slot_passed _ _ _ _ c.loop-n-test.true (omega arith) c.slot_valid.ensures (cc) ∙ c.loop-n.invariant.1)
-
 pub returns : goal.returns
-returns c = slots_passed _ _ _ c.loop-n-test.false ∙ c.loop-n.invariant.1
+returns c =
+    let words = c.args.slots.now in
+    let marks = c.args.marks.now in
+    all_from_yields_List (λ (p : ℕ × ℕ). slot_valid p.0 p.1) c.all.new.self _ _ c.all.ensures.ran
+    (YieldsList-from_zip (YieldsList-from_slice words cc) (YieldsList-from_slice marks cc))
+    (λ x b q k. search (rules, tests))
+    ∙ slots words marks c.requires
