@@ -1,5 +1,6 @@
 -- The two outcomes of filling, from what the code has counted: too few tape words for the copies, or a full store.
-use Rattle.std.proofs.Common.{◌≡◌, ℕ, ◌+◌, ◌-◌, ◌<◌, ◌≤◌, Bool, false, ltb, List, map, length, take, drop, replicate, sym, ap, ◌∙◌, append_assoc, arith, length-drop, length-take-le, le-ltb, lt-ltb}
+use Rattle.std.proofs.Common.{◌≡◌, ℕ, ◌+◌, ◌-◌, ◌<◌, ◌≤◌, Bool, false, ltb, List, map, length, take, drop, replicate, sym, ap, ◌∙◌, append_assoc, arith, length-drop, length-take-le, le-ltb, lt-ltb, Ok, Err}
+use Rattle.answers.specs.declared.finding.Finding.TheVariants.{TapeShort}
 use Rattle.rows.specs.Rows.{Row}
 use Rattle.store.specs.Store.{Fit, rows_of}
 use Rattle.rounds.specs.declared.call.Call.{Call as CallByValue}
@@ -8,7 +9,6 @@ use Rattle.rounds.specs.Calls.{Call}
 use Rattle.rounds.specs.Copies.{copies_of}
 use Rattle.rounds.specs.Rounds.{Start, stored, copies, tape_short, parent, new_row, filled}
 use Rattle.rounds.specs.Handed.{program_of, call_of, start_of, Holding}
-use Rattle.filling.specs.declared.Filling.TheVariants.{TapeShort, Filled}
 use Rattle.filling.specs.Filling.{filling, after_filling, filled_as, with_copies, with_new}
 use Rattle.filling.proofs.Fronts.{Front, kept_length, with_copies_length, front_taken, front_holds}
 
@@ -34,7 +34,7 @@ module _ {c : CallByValue} {tape words marks : List ℕ} {x : StartByValue} {cou
   unfolding tape_short
   short_is e = rw (← k.remaining, copies_counted) e
 
-  pub short_of_tape : left < count → filled_as TapeShort (rows_of c.store words marks) asked start
+  pub short_of_tape : left < count → filled_as (Err (record { finding = TapeShort; used = x.used })) (rows_of c.store words marks) asked start
   unfolding filling after_filling
   short_of_tape few =
       let short = short_is (lt-ltb _ _ few) in
@@ -44,7 +44,7 @@ module _ {c : CallByValue} {tape words marks : List ℕ} {x : StartByValue} {cou
     short_not : tape_short asked start ≡ false
     short_not = short_is (le-ltb _ _ enough)
 
-    pub answered : Filled (x.used + count) ≡ filling asked start
+    pub answered : Ok (x.used + count) ≡ filling asked start
     unfolding filling
     answered = rw (short_not, copies_counted)
 

@@ -1,23 +1,24 @@
 -- A stepping stone between contracts: what filling answers, and the rows that it leaves, from the definition of a round in rounds/specs and its 8.
-use Rattle.std.specs.Prelude.{◌≡◌, ℕ, ◌+◌, cond, List, ◌++◌, map, replicate, slice_set}
+use Rattle.std.specs.Prelude.{Result, Ok, Err, ◌≡◌, ℕ, ◌+◌, cond, List, ◌++◌, map, replicate, slice_set}
 use Rattle.rows.specs.Rows.{Row}
 use Rattle.loader.specs.Loading.{Program, programmed, new_executor}
 use Rattle.store.specs.Store.{nth_row}
 use Rattle.store.specs.declared.layout.Layout.{Layout}
 use Rattle.rounds.specs.Calls.{Call}
 use Rattle.rounds.specs.Rounds.{Start, stored, copies, tape_short, parent, filled}
-use Rattle.filling.specs.declared.Filling.{Filling}
-use Rattle.filling.specs.declared.Filling.TheVariants.{TapeShort, Filled}
+use Rattle.rounds.specs.declared.call.Ended.{Ended}
+use Rattle.answers.specs.declared.finding.Finding.TheVariants.{TapeShort}
 
-unfoldable pub filling : Call → Start → Filling
-filling c s = cond (tape_short c s) TapeShort (Filled (s.used + copies c s))
+-- the tape words that are used then; or 8, which ends the search
+unfoldable pub filling : Call → Start → Result ℕ Ended
+filling c s = cond (tape_short c s) (Err (record { finding = TapeShort; used = s.used })) (Ok (s.used + copies c s))
 
 -- where the tape is too short the rows stay as before
 unfoldable pub after_filling : Call → Start → List Row
 after_filling c s = cond (tape_short c s) (stored c.store s.kept) (filled c s)
 
 -- an answer and the rows of a store say what filling comes to
-abbrev pub filled_as : Filling → List Row → Call → Start → Type 0
+abbrev pub filled_as : Result ℕ Ended → List Row → Call → Start → Type 0
 filled_as r rows c s = (r ≡ filling c s) × (rows ≡ after_filling c s)
 
 -- ---- the two halves of filling

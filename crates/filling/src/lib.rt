@@ -10,17 +10,11 @@ ghost use Rattle.rounds.specs.Rounds.{stored};
 ghost use Rattle.rounds.specs.Handed.{program_of, call_of, Loadable, Callable, start_of, Holding};
 ghost use Rattle.filling.specs.Filling.{with_copies, programmed_at, with_new, filled_as};
 
+use answers::finding::Finding;
 use loader::load_program;
-use rounds::call::{Call, Start};
+use rounds::call::{Call, Ended, Start};
 use store::copy::copy_row;
 use store::layout::Layout;
-
-// Fewer tape words are left than copies to make, or the store is full and so many tape words are used.
-#[derive(Clone, Copy)]
-pub enum Filling {
-    TapeShort,
-    Filled(usize),
-}
 
 // How many of the missing executors are copies: the product rounded to the nearest whole number, halves up.
 // Twice the product is exact, so what is left to round is a half.
@@ -45,18 +39,9 @@ fn count_copies(rows: usize, kept: usize, ratio: f64) -> usize
     ensures kept_nonzero { 0 < result → 0 < kept }
 {
     if kept == 0 {
-        return 0;
-    }
-    to_copy(rows - kept, ratio)
-}
-
-fn words_left(tape: &[u64], used: usize) -> usize
-    ensures { result ≡ length tape.now - used }
-{
-    if used < tape.len() {
-        tape.len() - used
-    } else {
         0
+    } else {
+        to_copy(rows - kept, ratio)
     }
 }
 
@@ -79,8 +64,7 @@ fn copy_executors(
 {
     let kept = start.kept;
     let used = start.used;
-    let mut i = 0;
-    while i < count {
+    for i in 0..count {
         let draw = tape[used + i];
         copy_row(
             words,
@@ -89,7 +73,6 @@ fn copy_executors(
             (draw % (kept as u64)) as usize,
             kept + i,
         );
-        i += 1;
     }
 }
 
@@ -129,15 +112,13 @@ fn new_executors(
         ≡ with_new call.store (program_of call code.now «data».now)
         (take from (rows_of call.store words.old marks.old)) (call.store.rows - from) }
 {
-    let rows = call.store.rows;
-    let mut r = from;
-    while r < rows {
+    for r in from..call.store.rows {
         load_row(words, marks, call, code, data, r);
-        r += 1;
     }
 }
 
-// The kept rows stay; copies of them follow, then new executors.
+// The kept rows stay; copies of them follow, then new executors. Answers how many tape words are used then; where fewer of them
+// are left than copies to make, the search ends.
 pub fn create_missing_executors(
     words: &mut [u64],
     marks: &mut [u8],
@@ -146,7 +127,7 @@ pub fn create_missing_executors(
     data: &[u8],
     tape: &[u64],
     start: Start,
-) -> Filling
+) -> Result<usize, Ended>
     requires holding { Holding call.store words.old marks.old start.kept }
     requires callable { Callable (call_of call code.now «data».now tape.now) }
     ensures { filled_as result (rows_of call.store words.new marks.new)
@@ -154,10 +135,13 @@ pub fn create_missing_executors(
 {
     let store = call.store;
     let count = count_copies(store.rows, start.kept, call.options.copy_init_ratio);
-    if words_left(tape, start.used) < count {
-        return Filling::TapeShort;
+    if tape.len().saturating_sub(start.used) < count {
+        return Err(Ended {
+            finding: Finding::TapeShort,
+            used: start.used,
+        });
     }
     copy_executors(words, marks, store, tape, start, count);
     new_executors(words, marks, call, code, data, start.kept + count);
-    Filling::Filled(start.used + count)
+    Ok(start.used + count)
 }

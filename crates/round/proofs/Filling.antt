@@ -1,36 +1,37 @@
 -- The two ways on after filling: the round ends with 8, or the filled rows run.
-use mathlib.Core.Bool.{Bool, true, false, cond}
-use mathlib.Core.List.{List}
-use mathlib.Core.Path.{◌≡◌, refl, sym, ap, ◌∙◌}
-use Prim.Native.Nat.{ℕ, ◌+◌, ◌<◌, ◌^◌}
+use Rattle.std.proofs.Common.{◌≡◌, refl, sym, ◌∙◌, Bool, true, false, cond, List, ℕ, ◌+◌, ◌<◌, ◌^◌, Result, Ok, Err}
 use Rattle.rows.specs.Rows.{Row}
 use Rattle.store.specs.Store.{Sized}
 use Rattle.answers.specs.declared.finding.Finding.TheVariants as finding
 use Rattle.rounds.specs.Calls.{Call}
 use Rattle.rounds.specs.Rounds.{Start, stored, copies, tape_short, filled, After, ends, ran_on, round_of}
-use Rattle.filling.specs.declared.Filling.{Filling}
-use Rattle.filling.specs.declared.Filling.TheVariants.{TapeShort, Filled}
+use Rattle.rounds.specs.declared.call.Ended.{Ended}
 use Rattle.filling.specs.Filling.{filling, after_filling}
 use Rattle.running.specs.Running.{LimitsAllow}
 use Rattle.round.specs.After.{round_with_filling}
 use Rattle.round.proofs.Limits.{filled_allow}
 
-module _ (c : Call) (s : Start) {rows : List Row} (left : rows ≡ after_filling c s) {answer : Filling} (is : answer ≡ filling c s) where
-  pub short_round : answer ≡ TapeShort → ends finding.TapeShort rows s.used ≡ round_with_filling c s
-  unfolding filling after_filling round_with_filling
-  short_round e = by (tape_short c s) (sym e ∙ is) left
-    where
-      by : (b : Bool) → TapeShort ≡ cond b TapeShort (Filled (s.used + copies c s)) → rows ≡ cond b (stored c.store s.kept) (filled c s)
-          → ends finding.TapeShort rows s.used ≡ cond b (ends finding.TapeShort (stored c.store s.kept) s.used) (round_of c s).after
-      by true e r = ap (λ (l : List Row). ends finding.TapeShort l s.used) r
-      by false e r = cc
+module _ (c : Call) (s : Start) {rows : List Row} (left : rows ≡ after_filling c s) {answer : Result ℕ Ended} (is : answer ≡ filling c s) where
+  -- how a search ends that is short of tape words
+  abbrev short : Ended
+  short = record { finding = finding.TapeShort; used = s.used }
 
-  module _ {used : ℕ} (full : answer ≡ Filled used) where
+  pub short_round : {e : Ended} → answer ≡ Err e → ends e.finding rows e.used ≡ round_with_filling c s
+  unfolding filling after_filling round_with_filling
+  short_round {e} h = by (tape_short c s) (sym h ∙ is) left
+    where
+      by : (b : Bool) → Err e ≡ cond b (Err short) (Ok (s.used + copies c s))
+          → rows ≡ cond b (stored c.store s.kept) (filled c s)
+          → ends e.finding rows e.used ≡ cond b (ends finding.TapeShort (stored c.store s.kept) s.used) (round_of c s).after
+      by true h r = let same : e ≡ short = cc in rw (same, r)
+      by false h r = cc
+
+  module _ {used : ℕ} (full : answer ≡ Ok used) where
     not_short : tape_short c s ≡ false
     unfolding filling
     not_short = by (tape_short c s) (sym full ∙ is)
       where
-        by : (b : Bool) → Filled used ≡ cond b TapeShort (Filled (s.used + copies c s)) → b ≡ false
+        by : (b : Bool) → Ok used ≡ cond b (Err short) (Ok (s.used + copies c s)) → b ≡ false
         by true e = cc
         by false e = refl
 
@@ -40,7 +41,7 @@ module _ (c : Call) (s : Start) {rows : List Row} (left : rows ≡ after_filling
 
     used_is : used ≡ s.used + copies c s
     unfolding filling
-    used_is = let e : Filled used ≡ Filled (s.used + copies c s) = rw not_short at (sym full ∙ is) in cc
+    used_is = let e : Ok used ≡ Ok (s.used + copies c s) = rw not_short at (sym full ∙ is) in cc
 
     pub filled_limits : Sized c.store → c.options.step_size < 2 ^ 32 → LimitsAllow c.options.step_size s.kept
         → LimitsAllow c.options.step_size rows

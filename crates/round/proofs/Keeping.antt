@@ -1,11 +1,6 @@
 -- Keeping the rarest, as the code does it, is the definition's selection.
-use mathlib.Core.Bool.{Bool, true, false}
-use mathlib.Core.List.{List}
-use mathlib.Core.Path.{◌≡◌, sym, ap, ◌∙◌}
-use Prim.Native.Nat.{ℕ, ◌≤◌}
-use native.Mathlib.Omega.{arith}
-use lib.Ieee.{Float}
-use lib.ListN.{length, take, length-map}
+use Rattle.std.proofs.Common.{Bool, true, false, List, ◌≡◌, sym, ap, ◌∙◌, ℕ, ◌≤◌, arith, Float, length, take}
+use lib.ListN.{length-map}
 use Rattle.rows.specs.Rows.{Row}
 use Rattle.store.specs.declared.layout.Layout.{Layout}
 use Rattle.store.specs.Store.{Fit, rows_of, nth_row}

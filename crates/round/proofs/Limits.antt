@@ -1,7 +1,5 @@
 -- Every row of a filled store lets a step be added to its limit, if the kept rows do: a copy is one of them, and a new executor's limit is 0.
-use mathlib.Core.List.{List, [], ◌∷◌}
-use Prim.Native.Nat.{ℕ, suc, ◌+◌, ◌<◌, ◌^◌}
-use native.Mathlib.Omega.{arith}
+use Rattle.std.proofs.Common.{List, [], ◌∷◌, ℕ, suc, ◌+◌, ◌<◌, ◌^◌, arith}
 use Rattle.rows.specs.Rows.{Row, row, limit_of}
 use Rattle.loader.proofs.Kept.{new_limit}
 use Rattle.store.specs.Store.{Sized}

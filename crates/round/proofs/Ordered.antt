@@ -1,7 +1,5 @@
 -- The test for 31 on the scores of all rows is that on the scores of the running ones: the 0 of the other rows can be ordered.
-use mathlib.Core.Bool.{Bool, true, false, ◌&&◌}
-use mathlib.Core.List.{List, [], ◌∷◌, map}
-use mathlib.Core.Path.{◌≡◌, refl, ap}
+use Rattle.std.proofs.Common.{Bool, true, false, ◌&&◌, List, [], ◌∷◌, map, ◌≡◌, refl, ap}
 use lib.Ieee.{le, of_int}
 use Rattle.rows.specs.Rows.{Row}
 use Rattle.means.specs.Means.{whole}

@@ -1,10 +1,5 @@
 -- The front of a local array, after a callee has written it: what was written, and no longer than the array.
-use mathlib.Core.List.{List, ◌++◌}
-use mathlib.Core.Path.{◌≡◌, ap, ◌∙◌}
-use Prim.Native.Nat.{ℕ, ◌-◌, ◌≤◌}
-use native.Mathlib.Omega.{arith}
-use lib.ListN.{length, take, drop, length-append}
-use lib.Seq.{take_at}
+use Rattle.std.proofs.Common.{List, ◌++◌, ◌≡◌, ap, ◌∙◌, ℕ, ◌-◌, ◌≤◌, arith, length, take, drop, length-append, take_at}
 
 -- an array lent as `&mut a[0..n]`, when `written` comes back for that part
 abbrev pub given_back : {A : Type 0} → ℕ → List A → List A → List A

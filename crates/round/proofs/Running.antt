@@ -1,9 +1,6 @@
 -- A round's runs, as the code has them: the round ends with what was found, or it goes on to the selection.
-use mathlib.Core.Bool.{Bool}
-use mathlib.Core.List.{List, map}
-use mathlib.Core.Path.{◌≡◌, refl, sym, ap, ◌∙◌}
-use Prim.Native.Nat.{ℕ}
-use lib.ListN.{length, length-map}
+use Rattle.std.proofs.Common.{◌≡◌, refl, sym, ap, ◌∙◌, Bool, List, map, ℕ, length}
+use Rattle.std.proofs.lemmas.List.{length-map}
 use Rattle.rows.specs.Rows.{Row}
 use Rattle.machine.specs.Runs.{Finished}
 use Rattle.store.specs.declared.layout.Layout.{Layout}
@@ -13,9 +10,9 @@ use Rattle.counting.specs.Counters.{taking}
 use Rattle.answers.specs.declared.finding.Finding.{Finding}
 use Rattle.answers.specs.declared.finding.Finding.TheVariants.{Nothing, Found, Failed, TapeShort, ScoresUnordered}
 use Rattle.options.specs.declared.RaritySimulationOptions.{RaritySimulationOptions}
+use Rattle.rounds.specs.declared.call.Ended.{Ended}
 use Rattle.rounds.specs.Rounds.{After, ends, ends_or, selected, run_all, row_after, running_flag, still_running, outcome_of, used_after, ran_on}
 use Rattle.rounds.proofs.Running.{run_all_length}
-use Rattle.running.specs.declared.AllRan.{AllRan}
 use Rattle.running.specs.Running.{all_ran}
 
 -- the findings other than none end a round
@@ -39,12 +36,12 @@ module _ (o : RaritySimulationOptions) (tape : List ℕ) (used : ℕ) (s : Layou
       ∙ run_all_length o.step_size tape used (rows_of s words marks)
       ∙ length_rows s.rows s.words s.marks words marks
 
-  module _ {all : AllRan} (ran : all ≡ all_ran used runs) {rows : List Row} (after : rows ≡ map row_after runs) where
+  module _ {all : Ended} (ran : all ≡ all_ran used runs) {rows : List Row} (after : rows ≡ map row_after runs) where
     pub ended : (all.finding ≡ Nothing → ⊥) → ends all.finding rows all.used ≡ (ran_on o tape used (rows_of s words marks)).after
     unfolding ran_on
     ended h =
         ends_with all.finding rows all.used next h
-        ∙ ap (λ (a : AllRan). ends_or a.finding rows a.used next) ran
+        ∙ ap (λ (a : Ended). ends_or a.finding rows a.used next) ran
         ∙ ap (λ (l : List Row). ends_or (outcome_of runs) l (used_after used runs) next) after
 
     pub selects : {flags : List Bool} {t : After} → flags ≡ map running_flag runs → all.finding ≡ Nothing
@@ -54,5 +51,5 @@ module _ (o : RaritySimulationOptions) (tape : List ℕ) (used : ℕ) (s : Layou
         e
         ∙ ap (λ (l : List Bool). selected o rows all.used (taking l rows)) flagged
         ∙ ap (λ (l : List Row). selected o l all.used (taking (map running_flag runs) l)) after
-        ∙ ap (λ (a : AllRan). selected o (map row_after runs) a.used (taking (map running_flag runs) (map row_after runs))) ran
-        ∙ ap (λ (f : Finding). ends_or f (map row_after runs) (used_after used runs) next) (sym nothing ∙ ap (λ (a : AllRan). a.finding) ran)
+        ∙ ap (λ (a : Ended). selected o (map row_after runs) a.used (taking (map running_flag runs) (map row_after runs))) ran
+        ∙ ap (λ (f : Finding). ends_or f (map row_after runs) (used_after used runs) next) (sym nothing ∙ ap (λ (a : Ended). a.finding) ran)

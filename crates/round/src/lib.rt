@@ -10,23 +10,16 @@ ghost use Rattle.running.specs.Running.{LimitsAllow};
 ghost use Rattle.round.specs.After.{round_with_filling, after_in, Ready};
 
 use answers::finding::Finding;
-use filling::{Filling, create_missing_executors};
+use filling::create_missing_executors;
 use options::RaritySimulationOptions;
 use rarity::{are_ordered, score_rows};
-use rounds::call::{Call, Start};
+use rounds::call::{Call, Ended, Start};
 use rows::limits::MOST_ROWS;
 use running::run_all;
 use selection::select_rarest;
 use store::layout::Layout;
 
-// The search goes on from what the round kept, or it ends with a finding, so many tape words being used.
-#[derive(Clone, Copy)]
-pub enum AfterRound {
-    GoesOn(Start),
-    Ends { finding: Finding, used: usize },
-}
-
-// Keeps the rarest of the rows that are still running.
+// Keeps the rarest of the rows that are still running. Here and below an `Err` ends the search.
 fn keep_rarest(
     words: &mut [u64],
     marks: &mut [u8],
@@ -34,7 +27,7 @@ fn keep_rarest(
     options: RaritySimulationOptions,
     running: &[bool],
     used: usize,
-) -> AfterRound
+) -> Result<Start, Ended>
     requires fit { Fit store words.old marks.old }
     requires running_len { length running.now ≡ store.rows }
     ensures result_after { after_in store words.new marks.new result
@@ -47,10 +40,10 @@ fn keep_rarest(
     let mean = options.mean;
     score_rows(words, marks, store, running, mean, &mut scores[0..n]);
     if !are_ordered(&scores[0..n]) {
-        return AfterRound::Ends {
+        return Err(Ended {
             finding: Finding::ScoresUnordered,
             used,
-        };
+        });
     }
     let kept = select_rarest(
         words,
@@ -60,7 +53,7 @@ fn keep_rarest(
         running,
         options.selection as usize,
     );
-    AfterRound::GoesOn(Start { kept, used })
+    Ok(Start { kept, used })
 }
 
 // Runs a filled store, and keeps the rarest rows if no bug and no error was met.
@@ -71,7 +64,7 @@ fn run_and_keep(
     options: RaritySimulationOptions,
     tape: &[u64],
     used: usize,
-) -> AfterRound
+) -> Result<Start, Ended>
     requires fit { Fit store words.old marks.old }
     requires limits_allow { LimitsAllow options.step_size (rows_of store words.old marks.old) }
     ensures result_after { after_in store words.new marks.new result
@@ -89,12 +82,8 @@ fn run_and_keep(
         tape,
         used,
     );
-    let finding = all.finding;
-    let Finding::Nothing = finding else {
-        return AfterRound::Ends {
-            finding,
-            used: all.used,
-        };
+    let Finding::Nothing = all.finding else {
+        return Err(all);
     };
     keep_rarest(words, marks, store, options, &running[0..n], all.used)
 }
@@ -108,7 +97,7 @@ pub fn round(
     data: &[u8],
     tape: &[u64],
     start: Start,
-) -> AfterRound
+) -> Result<Start, Ended>
     requires holding { Holding call.store words.old marks.old start.kept }
     requires callable { Callable (call_of call code.now «data».now tape.now) }
     requires limits_allow { LimitsAllow call.options.step_size (start_of call.store words.old marks.old start).kept }
@@ -117,16 +106,6 @@ pub fn round(
         (start_of call.store words.old marks.old start) }
     ensures ready { Ready call.store words.new marks.new result }
 {
-    let filling = create_missing_executors(words, marks, call, code, data, tape, start);
-    match filling {
-        Filling::TapeShort => AfterRound::Ends {
-            finding: Finding::TapeShort,
-            used: start.used,
-        },
-        Filling::Filled(used) => {
-            let store = call.store;
-            let options = call.options;
-            run_and_keep(words, marks, store, options, tape, used)
-        }
-    }
+    let used = create_missing_executors(words, marks, call, code, data, tape, start)?;
+    run_and_keep(words, marks, call.store, call.options, tape, used)
 }

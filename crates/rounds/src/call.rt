@@ -1,4 +1,5 @@
 // What a search goes by. The slices that it reads, code, data and tape, travel beside these.
+use answers::finding::Finding;
 use options::RaritySimulationOptions;
 use store::layout::Layout;
 
@@ -15,5 +16,12 @@ pub struct Call {
 #[derive(Clone, Copy)]
 pub struct Start {
     pub kept: usize,
+    pub used: usize,
+}
+
+// How a search ends: what it comes to, and how many tape words are used.
+#[derive(Clone, Copy)]
+pub struct Ended {
+    pub finding: Finding,
     pub used: usize,
 }

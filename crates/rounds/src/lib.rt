@@ -1,4 +1,4 @@
-// A search call and a round's start by value, beside the definitions of a search's rounds in specs/ and the proof of demand 3 in proofs/.
+// A search call, a round's start and a search's end by value, beside the definitions of a search's rounds in specs/ and the proof of demand 3 in proofs/.
 #![tactic(auto)]
 
 pub mod call;

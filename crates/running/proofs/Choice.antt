@@ -1,12 +1,6 @@
 -- The outcome of some runs, with one run more: their first bug stands, else its bug, else their first error, else its error.
-use mathlib.Core.Bool.{true, cond}
-use mathlib.Core.Path.{◌≡◌, refl, sym, ap, ◌∙◌}
-use mathlib.Core.List.{List, [], ◌∷◌, ◌++◌}
-use Prim.Native.Nat.{ℕ, suc, ◌+◌, ◌≤◌, ◌<◌}
-use native.Mathlib.Omega.{arith}
-use borrow.Author.Tests.{lt-ltb, le-ltb}
-use lib.Dec.{ltb}
-use lib.ListN.{length}
+use Rattle.std.proofs.Common.{true, false, cond, ◌≡◌, refl, sym, ap, ◌∙◌, List, [], ◌∷◌, ◌++◌, ℕ, suc, ◌+◌, arith, ltb, length}
+use Rattle.answers.specs.declared.bug.Bug.{Bug}
 use Rattle.answers.specs.declared.outcome.Outcome.TheVariants as outcome
 use Rattle.answers.specs.declared.outcome.Progress.{Progress}
 use Rattle.answers.specs.declared.outcome.Progress.TheVariants.{Running, Ended}
@@ -15,7 +9,14 @@ use Rattle.machine.specs.Runs.{Finished}
 use Rattle.answers.specs.declared.finding.Finding.{Finding}
 use Rattle.answers.specs.declared.finding.Finding.TheVariants.{Nothing, Found, Failed, TapeShort, ScoresUnordered}
 use Rattle.rounds.specs.Rounds.{bug_at, error_at, first_bug, first_error, outcome_of}
-use Rattle.running.specs.RowRuns.{precedence_of}
+
+-- a bug stands against an error, and anything stands against nothing
+abbrev precedence_of : Finding → ℕ
+precedence_of Nothing = 0
+precedence_of (Found bug i pc) = 2
+precedence_of (Failed error i pc) = 1
+precedence_of TapeShort = 1
+precedence_of ScoresUnordered = 1
 
 -- `new` where b has a lower precedence
 abbrev unless : ℕ → Finding → Finding → Finding
@@ -68,6 +69,21 @@ either (Failed x i pc) error new h = ap (λ (f : Finding). unless 1 f new) (sym 
 either TapeShort error new h = ap (λ (f : Finding). unless 1 f new) (sym h)
 either ScoresUnordered error new h = ap (λ (f : Finding). unless 1 f new) (sym h)
 
+-- what has no precedence is nothing, and what has not that of a bug is none
+no_bug : (b : Finding) → ((bug : Bug) (row pc : ℕ) → b ≡ Found bug row pc → ⊥) → ltb (precedence_of b) 2 ≡ true
+no_bug Nothing h = refl
+no_bug (Found bug row pc) h = absurd (h bug row pc refl)
+no_bug (Failed error row pc) h = refl
+no_bug TapeShort h = refl
+no_bug ScoresUnordered h = refl
+
+some : (b : Finding) → (b ≡ Nothing → ⊥) → ltb (precedence_of b) 1 ≡ false
+some Nothing h = absurd (h refl)
+some (Found bug row pc) h = refl
+some (Failed error row pc) h = refl
+some TapeShort h = refl
+some ScoresUnordered h = refl
+
 -- ---- where `best` is the outcome of the runs before
 
 module _ {best : Finding} (new : Finding) (before : List Finished) (e : best ≡ outcome_of before) where
@@ -75,11 +91,11 @@ module _ {best : Finding} (new : Finding) (before : List Finished) (e : best ≡
   after_bug f =
       first_bug_new 0 before (first_error 0 before Nothing) f (error_no_bug 0 before) ∙ ap (λ (b : Finding). unless 2 b f) (sym e)
 
-  pub new_bug : precedence_of best < 2 → new ≡ first_bug 0 before new
-  new_bug h = sym (after_bug new ∙ rw (lt-ltb (precedence_of best) 2 h))
+  pub new_bug : ((bug : Bug) (row pc : ℕ) → best ≡ Found bug row pc → ⊥) → new ≡ first_bug 0 before new
+  new_bug h = sym (after_bug new ∙ rw (no_bug best h))
 
-  pub bug_stays : 2 ≤ precedence_of best → best ≡ first_bug 0 before new
-  bug_stays h = sym (after_bug new ∙ rw (le-ltb (precedence_of best) 2 h))
+  pub bug_stays : {bug : Bug} {row pc : ℕ} → best ≡ Found bug row pc → best ≡ first_bug 0 before new
+  bug_stays h = sym (after_bug new ∙ rw h)
 
   after_error : first_bug 0 before (first_error 0 before new) ≡ unless 1 best new
   after_error =
@@ -87,11 +103,11 @@ module _ {best : Finding} (new : Finding) (before : List Finished) (e : best ≡
       ∙ ap (λ (f : Finding). unless 2 best f) (first_error_new 0 before new)
       ∙ either best (first_error 0 before Nothing) new (e ∙ after_bug (first_error 0 before Nothing))
 
-  pub new_error : precedence_of best < 1 → new ≡ first_bug 0 before (first_error 0 before new)
-  new_error h = sym (after_error ∙ rw (lt-ltb (precedence_of best) 1 h))
+  pub new_error : best ≡ Nothing → new ≡ first_bug 0 before (first_error 0 before new)
+  new_error h = sym (after_error ∙ rw h)
 
-  pub outcome_stays : 1 ≤ precedence_of best → best ≡ first_bug 0 before (first_error 0 before new)
-  outcome_stays h = sym (after_error ∙ rw (le-ltb (precedence_of best) 1 h))
+  pub outcome_stays : (best ≡ Nothing → ⊥) → best ≡ first_bug 0 before (first_error 0 before new)
+  outcome_stays h = sym (after_error ∙ rw (some best h))
 
 -- ---- one run more
 

@@ -1,13 +1,7 @@
 -- The loop over the rows: the runs that are made and those to come are all the runs, and what is stored is what the first have left.
-use mathlib.Core.Bool.{Bool}
-use mathlib.Core.Path.{◌≡◌, refl, sym, ap, ◌∙◌, subst}
-use mathlib.Core.List.{List, [], ◌∷◌, ◌++◌, map, map-append, append-nil}
-use Prim.Native.Nat.{ℕ, suc, ◌+◌, ◌≤◌, ◌<◌, ◌^◌}
-use native.Mathlib.Nat.{add-zero, lt-suc_self}
-use native.Mathlib.Numerals.{add-one}
-use native.Mathlib.Omega.{arith}
-use lib.ListN.{length, set, take, drop, length-append, length-set, drop_of_length-le}
-use lib.Seq.{take_all, take-suc-set, drop-cons, drop-set-lt, drop-drop, get_or-drop, append_snoc}
+use Rattle.std.proofs.Common.{Bool, ◌≡◌, refl, sym, ap, ◌∙◌, subst, List, [], ◌∷◌, ◌++◌, map, append-nil, ℕ, suc, ◌+◌, ◌≤◌, ◌<◌, ◌^◌, add-zero, lt-suc_self, add-one, arith, length, set, take, drop, length-append, length-set, drop_of_length-le, take_all, take-suc-set, drop-cons, drop-set-lt, drop-drop, get_or-drop}
+use mathlib.Core.List.{map-append}
+use lib.Seq.{append_snoc}
 use Rattle.rows.specs.Rows.{Row, row, limit_of}
 use Rattle.machine.specs.declared.run.Ran.{Ran}
 use Rattle.machine.specs.Runs.{Finished}
@@ -17,7 +11,7 @@ use Rattle.store.proofs.Rows.{length_rows, fit_same}
 use Rattle.answers.specs.declared.finding.Finding.{Finding}
 use Rattle.answers.specs.declared.finding.Finding.TheVariants.{Nothing}
 use Rattle.rounds.specs.Rounds.{run_all, used_after, row_after, is_running, running_flag, first_bug, first_error, outcome_of}
-use Rattle.running.specs.declared.AllRan.{AllRan}
+use Rattle.rounds.specs.declared.call.Ended.{Ended}
 use Rattle.running.specs.Running.{LimitsAllow, all_ran}
 use Rattle.running.specs.RowRuns.{row_run, with_row_run}
 
@@ -151,7 +145,7 @@ module _ (step : ℕ) (tape : List ℕ) (start : ℕ) (s : Layout) (words₀ mar
       all_done : k.done ≡ runs
       all_done = sym (append-nil k.done) ∙ ap (λ (l : List Finished). k.done ++ l) (sym none_to_come) ∙ k.all
 
-      pub all_run : (◌≡◌ {A = AllRan} (record { finding = best; used = used }) (all_ran start runs))
+      pub all_run : (◌≡◌ {A = Ended} (record { finding = best; used = used }) (all_ran start runs))
           × (rows_of s words marks ≡ map row_after runs) × (running ≡ map running_flag runs)
       all_run = (
         ap (λ (f : Finding). record { finding = f; used = used }) k.finding

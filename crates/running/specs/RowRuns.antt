@@ -1,10 +1,8 @@
--- A stepping stone between contracts: one row run where it stands, and which outcome stands against which.
+-- A stepping stone between contracts: one row run where it stands.
 use Rattle.std.specs.Prelude.{List, ℕ, set}
 use Rattle.rows.specs.Rows.{Row}
 use Rattle.machine.specs.Runs.{Finished, run_of}
 use Rattle.store.specs.Store.{nth_row}
-use Rattle.answers.specs.declared.finding.Finding.{Finding}
-use Rattle.answers.specs.declared.finding.Finding.TheVariants.{Nothing, Found, Failed, TapeShort, ScoresUnordered}
 use Rattle.rounds.specs.Rounds.{row_after}
 
 -- the run of row r, `used` tape words being used before it
@@ -14,11 +12,3 @@ row_run step tape used r rows = run_of step tape used (nth_row rows r)
 -- the rows with row r as its run leaves it
 abbrev pub with_row_run : ℕ → List ℕ → ℕ → ℕ → List Row → List Row
 with_row_run step tape used r rows = set rows r (row_after (row_run step tape used r rows))
-
--- a bug stands against an error, and anything stands against nothing
-abbrev pub precedence_of : Finding → ℕ
-precedence_of Nothing = 0
-precedence_of (Found bug i pc) = 2
-precedence_of (Failed error i pc) = 1
-precedence_of TapeShort = 1
-precedence_of ScoresUnordered = 1

@@ -7,80 +7,41 @@ ghost use Rattle.machine.specs.Runs.{Finished};
 ghost use Rattle.store.specs.Store.{Fit, rows_of, nth_row};
 ghost use Rattle.rounds.specs.Rounds.{run_all, row_after, is_running, running_flag, outcome_of};
 ghost use Rattle.running.specs.Running.{LimitsAllow, all_ran};
-ghost use Rattle.running.specs.RowRuns.{row_run, with_row_run, precedence_of};
+ghost use Rattle.running.specs.RowRuns.{row_run, with_row_run};
 
 use answers::finding::Finding;
 use answers::outcome::{Outcome, Progress};
 use machine::run::{Ran, run};
+use rounds::call::Ended;
 use store::layout::Layout;
 
-// The first bug in row order, else the first error, else nothing; and how many tape words are used.
-#[derive(Clone, Copy)]
-pub struct AllRan {
-    pub finding: Finding,
-    pub used: usize,
-}
-
-// The precedences of an error and of a bug; nothing has 0.
-const ERROR: u8 = 1;
-
-const BUG: u8 = 2;
-
-// A bug stands against an error, and anything stands against nothing.
-fn precedence(finding: Finding) -> u8
-    ensures { result ≡ precedence_of finding }
-{
-    match finding {
-        Finding::Nothing => 0,
-        Finding::Found {
-            bug: _,
-            row: _,
-            pc: _,
-        } => BUG,
-        Finding::Failed {
-            error: _,
-            row: _,
-            pc: _,
-        } => ERROR,
-        Finding::TapeShort => ERROR,
-        Finding::ScoresUnordered => ERROR,
-    }
-}
-
-// The outcome of the rows up to `row`, from that of the rows before it and its own run.
+// The outcome of the rows up to `row`, from that of the rows before it and its own run: a bug stands against an error, and either
+// against what later rows meet of its kind.
 fn choose(best: Finding, row: usize, ran: Ran) -> Finding
     ensures { (before : List Finished) (last : Finished) → best ≡ outcome_of before → row ≡ length before → ran ≡ last.ran
         → result ≡ outcome_of (before ++ (last ∷ [])) }
 {
-    let progress = ran.progress;
-    let Progress::Ended(outcome) = progress else {
+    let Progress::Ended(outcome) = ran.progress else {
         return best;
     };
     let pc = ran.pc;
     match outcome {
         Outcome::Exited => best,
-        Outcome::Found(bug) => {
-            if precedence(best) < BUG {
-                return Finding::Found { bug, row, pc };
-            }
-            best
-        }
-        Outcome::Failed(error) => {
-            if precedence(best) < ERROR {
-                return Finding::Failed { error, row, pc };
-            }
-            best
-        }
+        Outcome::Found(bug) => match best {
+            Finding::Found { .. } => best,
+            _ => Finding::Found { bug, row, pc },
+        },
+        Outcome::Failed(error) => match best {
+            Finding::Nothing => Finding::Failed { error, row, pc },
+            _ => best,
+        },
     }
 }
 
 fn still_running(progress: Progress) -> bool
     ensures { result ≡ is_running progress }
 {
-    match progress {
-        Progress::Running => true,
-        Progress::Ended(_) => false,
-    }
+    matches!(progress, Progress::Running)
 }
 
 // Runs row r where it lies, and flags it.
@@ -112,12 +73,12 @@ fn run_row(
         tape,
         used,
     );
-    let progress = ran.progress;
-    running[r] = still_running(progress);
+    running[r] = still_running(ran.progress);
     ran
 }
 
-// Runs all rows, even past a bug, and flags those that are still running.
+// Runs all rows, even past a bug, and flags those that are still running. Answers the first bug in row order, else the first error,
+// else nothing, and how many tape words are used.
 pub fn run_all(
     words: &mut [u64],
     marks: &mut [u8],
@@ -126,7 +87,7 @@ pub fn run_all(
     step: u32,
     tape: &[u64],
     used: usize,
-) -> AllRan
+) -> Ended
     requires fit { Fit store words.old marks.old }
     requires running_len { length running.old ≡ store.rows }
     requires limits_allow { LimitsAllow step (rows_of store words.old marks.old) }
@@ -137,12 +98,10 @@ pub fn run_all(
 {
     let mut finding = Finding::Nothing;
     let mut at = used;
-    let mut r = 0;
-    while r < store.rows {
+    for r in 0..store.rows {
         let ran = run_row(words, marks, store, running, step, tape, at, r);
         finding = choose(finding, r, ran);
         at = ran.used;
-        r += 1;
     }
-    AllRan { finding, used: at }
+    Ended { finding, used: at }
 }
