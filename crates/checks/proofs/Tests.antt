@@ -1,5 +1,5 @@
 -- What tests that passed, or did not, say.
-use Rattle.std.proofs.Common.{◌≡◌, refl, sym, ◌∙◌, Bool, true, false, cond, List, [], ◌∷◌, ◌++◌, Result, Ok, Err}
+use Rattle.std.proofs.Common.{◌≡◌, refl, sym, ap, ◌∙◌, Bool, true, false, cond, List, [], ◌∷◌, ◌++◌, Result, Ok, Err}
 use Rattle.checks.specs.Tests.{Test, test, checked_by}
 use Rattle.checks.specs.declared.refusal.Refusal.{Refusal}
 
@@ -12,11 +12,6 @@ one_refused : (b : Bool) (next all : Result (Unit {0}) Refusal) (g : Refusal) {f
     → cond b all (Err g) ≡ Err f
 one_refused true next all g h k = k h
 one_refused false next all g h k = h
-
--- a test alone
-pub one_test : {t b : Bool} (f : Refusal) → t ≡ b → checked_by (test b f ∷ []) ≡ cond t (Ok tt) (Err f)
-unfolding checked_by
-one_test f e = rw e
 
 -- every test passes
 abbrev pub AllPass : List Test → Type 0
@@ -49,3 +44,8 @@ module _ (tests : List Test) {r : Result (Unit {0}) Refusal} (e : r ≡ checked_
 
   pub still_refused : (others : List Test) {f : Refusal} → r ≡ Err f → checked_by (tests ++ others) ≡ Err f
   still_refused others h = refused_before tests others (sym e ∙ h)
+
+  -- one test more, that of t, which the code makes of b
+  pub then_test : (f : Refusal) {b t : Bool} {last : Result (Unit {0}) Refusal} → r ≡ Ok tt → b ≡ t → last ≡ checked_by (test b f ∷ [])
+      → checked_by (tests ++ (test t f ∷ [])) ≡ last
+  then_test f {b} {t} h v d = then_others (test t f ∷ []) h ∙ sym (d ∙ ap (λ x. checked_by (test x f ∷ [])) v)

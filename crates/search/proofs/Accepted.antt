@@ -1,17 +1,11 @@
 -- What the entry's tests that passed, or did not, say.
-use mathlib.Core.Path.{◌≡◌, refl, sym, ◌∙◌, subst}
-use mathlib.Core.Bool.{Bool}
-use mathlib.Core.List.{List}
-use Prim.Native.Nat.{ℕ, ◌/◌, ◌≤◌}
+use Rattle.std.proofs.Common.{◌≡◌, refl, sym, ◌∙◌, subst, Bool, List, ℕ, ◌/◌, ◌≤◌, T, length, Result, Ok}
 use native.Mathlib.Nat.{add-sub_cancel_left}
-use lib.Dec.{T}
-use lib.ListN.{length}
 use Rattle.rows.specs.Limits.{most_memory, most_log}
 use Rattle.loader.specs.Loading.{Program, Segment, Fits}
 use Rattle.checks.specs.Refusals.{is_copy_ratio}
 use Rattle.checks.specs.Tests.{checked_by}
-use Rattle.checks.specs.declared.refusal.Checked.{Checked}
-use Rattle.checks.specs.declared.refusal.Checked.TheVariants.{Accepted}
+use Rattle.checks.specs.declared.refusal.Refusal.{Refusal}
 use Rattle.checks.proofs.Fitting.{segments_fit}
 use Rattle.checks.proofs.Passed.{store_lengths, log_size_passed}
 use Rattle.checks.proofs.Tests.{all_pass}
@@ -25,7 +19,7 @@ use Rattle.search.specs.Entry.{call_tests, search_checked, Demanded}
 
 -- what an accepted call has
 pub record Allowed (o : RaritySimulationOptions) (log : ℕ) (p : Program) (words marks : List ℕ) : Type 0 where
-  pub accepted : search_checked o log p words marks ≡ Accepted
+  pub accepted : search_checked o log p words marks ≡ Ok tt
   pub fit : Fit (layout_of o log) words marks
   pub ratio : T (is_copy_ratio o.copy_init_ratio)
   pub memory : o.memory_size / 8 ≤ most_memory
@@ -34,7 +28,7 @@ pub record Allowed (o : RaritySimulationOptions) (log : ℕ) (p : Program) (word
 
 module _ (o : RaritySimulationOptions) (log : ℕ) (p : Program) (words marks : List ℕ) where
   -- what the tests say of a call
-  pub checked_as : {r a : Checked} → r ≡ checked_by (call_tests o log p (length words) (length marks)) → r ≡ a
+  pub checked_as : {r a : Result (Unit {0}) Refusal} → r ≡ checked_by (call_tests o log p (length words) (length marks)) → r ≡ a
       → search_checked o log p words marks ≡ a
   unfolding search_checked
   checked_as e k = sym e ∙ k
@@ -42,7 +36,7 @@ module _ (o : RaritySimulationOptions) (log : ℕ) (p : Program) (words marks : 
   in_words : (s : Segment) → Fits (o.memory_size / 8) s → Fits (memory_of (layout_of o log)) s
   in_words s f = subst (λ (w : ℕ). Fits w s) (sym (add-sub_cancel_left 32 (o.memory_size / 8))) f
 
-  allowed_by : search_checked o log p words marks ≡ Accepted → Allowed o log p words marks
+  allowed_by : search_checked o log p words marks ≡ Ok tt → Allowed o log p words marks
   unfolding search_checked
   allowed_by h =
       let t = all_pass (call_tests o log p (length words) (length marks)) refl h in
@@ -57,7 +51,7 @@ module _ (o : RaritySimulationOptions) (log : ℕ) (p : Program) (words marks : 
         loadable = record { code_fits = in_words p.code_segment f.0; data_fits = in_words p.data_segment f.1 };
       }
 
-  pub allowed : {r : Checked} → r ≡ checked_by (call_tests o log p (length words) (length marks)) → r ≡ Accepted
+  pub allowed : {r : Result (Unit {0}) Refusal} → r ≡ checked_by (call_tests o log p (length words) (length marks)) → r ≡ Ok tt
       → Allowed o log p words marks
   allowed e k = allowed_by (checked_as e k)
 

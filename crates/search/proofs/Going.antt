@@ -1,24 +1,17 @@
 -- The rounds of a search: what is still to be searched from here is what was to be searched from the beginning.
-use mathlib.Core.Path.{◌≡◌, refl, sym, ◌∙◌}
-use mathlib.Core.Bool.{Bool, true, false, cond}
-use mathlib.Core.List.{List}
-use Prim.Native.Nat.{ℕ, suc, ◌+◌, ◌-◌, ◌*◌, ◌^◌, ◌≤◌, ◌<◌}
-use native.Mathlib.Nat.{suc-mul, sub-zero}
-use native.Mathlib.Numerals.{add-one}
-use native.Mathlib.Omega.{arith}
+use Rattle.std.proofs.Common.{◌≡◌, refl, sym, ◌∙◌, Bool, true, false, cond, List, ℕ, suc, ◌+◌, ◌-◌, ◌*◌, ◌^◌, ◌≤◌, ◌<◌, suc-mul, add-one, arith, Ok, Err}
+use native.Mathlib.Nat.{sub-zero}
 use Rattle.store.specs.Store.{rows_of}
 use Rattle.rounds.specs.Calls.{Call}
 use Rattle.rounds.specs.Demand.{All, nil}
 use Rattle.rounds.specs.Handed.{Holding, start_of}
+use Rattle.rounds.specs.declared.call.Ended.{Ended}
 use Rattle.rounds.specs.declared.call.Start.{Start as StartByValue}
 use Rattle.rounds.specs.Rounds.{Start, beginning, stored, tape_short, goes_on, ends, round_of, searched_after, search_from}
-use Rattle.answers.specs.declared.finding.Finding.{Finding}
 use Rattle.answers.specs.declared.finding.Finding.TheVariants.{Nothing, TapeShort}
 use Rattle.running.specs.Running.{LimitsAllow}
 use Rattle.round.specs.After.{round_with_filling, after_in}
-use Rattle.round.specs.declared.AfterRound.TheVariants.{GoesOn, Ends}
 use Rattle.search.specs.Searching.{searched_as}
-use Rattle.search.specs.declared.answer.SearchAnswer.TheVariants as answer
 use Rattle.search.proofs.Limits.{Low, round_low, limits_allow}
 
 -- one round, and the rounds after it
@@ -69,7 +62,7 @@ module _ {c : Call} {n i : ℕ} {words marks : List ℕ} {start : StartByValue} 
         sym (search_round (n - (i + 1)) c (start_of c.store words marks start)) ∙ rw more at going.left
 
     pub follows_on : (words' marks' : List ℕ) (start' : StartByValue)
-        → after_in c.store words' marks' (GoesOn start') ≡ round_with_filling c (start_of c.store words marks start)
+        → after_in c.store words' marks' (Ok start') ≡ round_with_filling c (start_of c.store words marks start)
         → Holding c.store words' marks' start'.kept → Going c n (i + 1) words' marks' start'
     follows_on words' marks' start' e holding =
         let next = start_of c.store words' marks' start' in
@@ -80,13 +73,13 @@ module _ {c : Call} {n i : ℕ} {words marks : List ℕ} {start : StartByValue} 
           low = rw more (round_low c _ next _ holding.fit.sized going.low (filled_goes c _ next (sym e)));
         }
 
-    pub ends_with : (words' marks' : List ℕ) (finding : Finding) (used : ℕ)
-        → after_in c.store words' marks' (Ends finding used) ≡ round_with_filling c (start_of c.store words marks start)
-        → searched_as (answer.Searched finding used) (rows_of c.store words' marks') (search_from n c beginning)
-    ends_with words' marks' finding used e = rw (← round_left, ← e) (refl, refl)
+    pub ends_with : (words' marks' : List ℕ) (e : Ended)
+        → after_in c.store words' marks' (Err e) ≡ round_with_filling c (start_of c.store words marks start)
+        → searched_as e (rows_of c.store words' marks') (search_from n c beginning)
+    ends_with words' marks' e h = rw (← round_left, ← h) (refl, refl)
 
   -- all rounds are done
-  pub done : n ≤ i → searched_as (answer.Searched Nothing start.used) (rows_of c.store words marks) (search_from n c beginning)
+  pub done : n ≤ i → searched_as (record { finding = Nothing; used = start.used }) (rows_of c.store words marks) (search_from n c beginning)
   unfolding search_from
   done after =
       let none : n - i ≡ 0 = omega arith in

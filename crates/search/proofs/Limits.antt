@@ -1,9 +1,5 @@
 -- Limits in a search: a round adds at most one step to them.
-use mathlib.Core.Path.{◌≡◌}
-use mathlib.Core.List.{List, []}
-use Prim.Native.Nat.{ℕ, ◌+◌, ◌*◌, ◌^◌, ◌≤◌, ◌<◌}
-use native.Mathlib.Omega.{arith}
-use native.Mathlib.Nat.{mul-le-mul}
+use Rattle.std.proofs.Common.{◌≡◌, List, [], ℕ, ◌+◌, ◌*◌, ◌^◌, ◌≤◌, ◌<◌, arith, mul-le-mul}
 use Rattle.loader.proofs.Kept.{new_words, new_marks, new_limit}
 use Rattle.rows.specs.Rows.{Row, row, Shape, limit_of}
 use Rattle.machine.specs.Runs.{run_of}

@@ -1,22 +1,20 @@
 -- The search entry: what it refuses, what it answers, and the store that it leaves.
-use Rattle.std.specs.Prelude.{List, [], ◌∷◌, ◌++◌, ◌≡◌, ℕ, ◌/◌, length}
+use Rattle.std.specs.Prelude.{Result, Ok, Err, List, [], ◌∷◌, ◌++◌, ◌≡◌, ℕ, ◌/◌, length}
 use Rattle.answers.specs.Answers.{refused_answer}
 use Rattle.answers.specs.declared.answer.Answer.{Answer}
 use Rattle.checks.specs.Refusals.{refusal_number, is_memory_size, is_amount_of_states, is_copy_ratio, is_log_size, are_lengths}
 use Rattle.checks.specs.Segments.{segment_tests}
 use Rattle.checks.specs.Tests.{Test, test, checked_by}
+use Rattle.checks.specs.declared.refusal.Refusal.{Refusal}
 use Rattle.checks.specs.declared.refusal.Refusal.TheVariants.{MemorySize, AmountOfStates, CopyRatio, LogSize, LentLengths}
-use Rattle.checks.specs.declared.refusal.Checked.{Checked}
-use Rattle.checks.specs.declared.refusal.Checked.TheVariants as checked
 use Rattle.loader.specs.Loading.{Program}
 use Rattle.store.specs.Store.{words_of, marks_of}
 use Rattle.rounds.specs.Calls.{layout_of, call}
 use Rattle.rounds.specs.Demand.{Demand}
 use Rattle.answers.specs.Findings.{finding_answer}
 use Rattle.rounds.specs.Rounds.{Searched, searched}
+use Rattle.rounds.specs.declared.call.Ended.{Ended}
 use Rattle.options.specs.declared.RaritySimulationOptions.{RaritySimulationOptions}
-use Rattle.search.specs.declared.answer.SearchAnswer.{SearchAnswer}
-use Rattle.search.specs.declared.answer.SearchAnswer.TheVariants as answer
 
 -- 1 to 5, of a store of so many words and marks
 abbrev pub option_tests : RaritySimulationOptions → ℕ → ℕ → ℕ → List Test
@@ -32,35 +30,35 @@ option_tests o log words marks =
 abbrev pub call_tests : RaritySimulationOptions → ℕ → Program → ℕ → ℕ → List Test
 call_tests o log p words marks = option_tests o log words marks ++ segment_tests (o.memory_size / 8) p
 
-unfoldable pub search_checked : RaritySimulationOptions → ℕ → Program → List ℕ → List ℕ → Checked
+unfoldable pub search_checked : RaritySimulationOptions → ℕ → Program → List ℕ → List ℕ → Result (Unit {0}) Refusal
 search_checked o log p words marks = checked_by (call_tests o log p (length words) (length marks))
 
 -- the store and the answer after a call
 pub record Left : Type 0 where
   pub words : List ℕ
   pub marks : List ℕ
-  pub answer : SearchAnswer
+  pub answer : Result Ended Refusal
 
-abbrev pub left : List ℕ → List ℕ → SearchAnswer → Left
+abbrev pub left : List ℕ → List ℕ → Result Ended Refusal → Left
 left words marks a = record { words = words; marks = marks; answer = a }
 
 -- a search leaves its rows
 abbrev pub left_by : Searched → Left
-left_by x = left (words_of x.rows) (marks_of x.rows) (answer.Searched x.finding x.used)
+left_by x = left (words_of x.rows) (marks_of x.rows) (Ok (record { finding = x.finding; used = x.used }))
 
 -- a refused call leaves everything as found; an accepted one zeroes all rows and runs the rounds
-unfoldable pub search_left : Checked → RaritySimulationOptions → ℕ → Program → List ℕ → List ℕ → List ℕ → Left
-search_left checked.Accepted o log p tape words marks = left_by (searched (call o (layout_of o log) p tape))
-search_left (checked.Refused f) o log p tape words marks = left words marks (answer.Refused f)
+unfoldable pub search_left : Result (Unit {0}) Refusal → RaritySimulationOptions → ℕ → Program → List ℕ → List ℕ → List ℕ → Left
+search_left (Ok t) o log p tape words marks = left_by (searched (call o (layout_of o log) p tape))
+search_left (Err f) o log p tape words marks = left words marks (Err f)
 
 abbrev pub search_entry : RaritySimulationOptions → ℕ → Program → List ℕ → List ℕ → List ℕ → Left
 search_entry o log p tape words marks = search_left (search_checked o log p words marks) o log p tape words marks
 
 -- demand 3 of a call that is not refused
 abbrev pub Demanded : RaritySimulationOptions → ℕ → Program → List ℕ → List ℕ → List ℕ → Type 0
-Demanded o log p tape words marks = search_checked o log p words marks ≡ checked.Accepted → Demand (call o (layout_of o log) p tape)
+Demanded o log p tape words marks = search_checked o log p words marks ≡ Ok tt → Demand (call o (layout_of o log) p tape)
 
--- document 01's answer
-abbrev pub search_answer : SearchAnswer → Answer
-search_answer (answer.Refused f) = refused_answer (refusal_number f)
-search_answer (answer.Searched finding used) = finding_answer finding used
+-- the answer in numbers
+abbrev pub search_answer : Result Ended Refusal → Answer
+search_answer (Ok e) = finding_answer e.finding e.used
+search_answer (Err f) = refused_answer (refusal_number f)

@@ -3,25 +3,15 @@ ghost use Rattle.std.specs.Prelude.{◌≡◌};
 ghost use Rattle.search.specs.Entry.{search_answer};
 
 use answers::answer::Answer;
-use answers::finding::Finding;
 use checks::refusal::Refusal;
+use rounds::call::Ended;
 
-// A call is refused, or it is searched.
-#[derive(Clone, Copy)]
-pub enum SearchAnswer {
-    Refused(Refusal),
-    // What was found, and how many tape words were taken.
-    Searched { finding: Finding, used: usize },
-}
-
-impl SearchAnswer {
-    // The answer in numbers.
-    pub fn answer(self) -> Answer
-        ensures { result ≡ search_answer self }
-    {
-        match self {
-            SearchAnswer::Refused(refusal) => Answer::refused(refusal.number()),
-            SearchAnswer::Searched { finding, used } => finding.answer(used),
-        }
+// The answer in numbers, of a call that is refused or searched.
+pub fn search_answer(answer: Result<Ended, Refusal>) -> Answer
+    ensures { result ≡ search_answer answer }
+{
+    match answer {
+        Ok(ended) => ended.finding.answer(ended.used),
+        Err(refusal) => Answer::refused(refusal.number()),
     }
 }

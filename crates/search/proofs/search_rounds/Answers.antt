@@ -1,18 +1,22 @@
 use Rattle.std.proofs.Common.{arith}
+use Rattle.std.proofs.lemmas.Result.{err_from_is_err_and}
 use Rattle.search.proofs.Going.{begins, going_limits, follows_on, ends_with, done}
 use Rattle.search.proofs.search_rounds.Goals as goal
 
-pub loop-i-init : goal.loop-i-init
-loop-i-init c = begins _ _ _ _ c.requires.holding
+pub loop-round-init : goal.loop-round-init
+loop-round-init c = begins _ _ _ _ c.requires.holding
 
-pub round-after-requires-clause-limits_allow : goal.round-after-requires-clause-limits_allow
-round-after-requires-clause-limits_allow c = going_limits c.loop-i.invariant c.loop-i-test.true (omega arith) (omega arith)
+pub round-requires-clause-limits_allow : goal.round-requires-clause-limits_allow
+round-requires-clause-limits_allow c = going_limits c.loop-round.invariant c.loop-round-test.true (omega arith) (omega arith)
 
-pub returns-in-Ends : goal.returns-in-Ends
-returns-in-Ends c = ends_with c.loop-i.invariant c.loop-i-test.true _ _ _ _ c.in-Ends.ensures.result_after
+pub returns-in_err-start : goal.returns-in_err-start
+returns-in_err-start c =
+    let p = err_from_is_err_and c.from_residual.result c.from_residual.ensures.1 in
+    rw (p.1, p.2) (ends_with c.loop-round.invariant c.loop-round-test.true _ _ _ (rw c.in_err-start.was at c.round.ensures.result_after))
 
-pub loop-i-preserved : goal.loop-i-preserved
-loop-i-preserved c = follows_on c.loop-i.invariant c.loop-i-test.true _ _ _ c.in-GoesOn.ensures.result_after c.in-GoesOn.ensures.ready
+pub loop-round-preserved : goal.loop-round-preserved
+loop-round-preserved c =
+    follows_on c.loop-round.invariant c.loop-round-test.true _ _ _ (rw c.in_ok-start.was at c.round.ensures.result_after) (rw c.in_ok-start.was at c.round.ensures.ready)
 
 pub returns : goal.returns
-returns c = done c.loop-i.invariant c.loop-i-test.false
+returns c = done c.loop-round.invariant c.loop-round-test.false
