@@ -1,27 +1,19 @@
 -- What the entry's tests that passed, or did not, say.
-use mathlib.Core.Path.{◌≡◌, refl, ap, ◌∙◌}
-use mathlib.Core.Bool.{Bool, true, false, cond, and-eq-true_iff}
-use mathlib.Core.List.{List, [], ◌∷◌}
-use Prim.Native.Nat.{ℕ, ◌/◌, ◌≤◌}
-use borrow.Author.Tests.{eqb-true}
-use lib.Dec.{eqb}
-use lib.Ieee.{Float}
-use lib.ListN.{length}
+use Rattle.std.proofs.Common.{◌≡◌, refl, ap, ◌∙◌, Bool, List, [], ◌∷◌, ℕ, ◌/◌, ◌≤◌, eqb, eqb-true, Float, length, Result, Ok, Err}
+use mathlib.Core.Bool.{and-eq-true_iff}
 use Rattle.rows.specs.Limits.{most_memory, most_log}
 use Rattle.checks.specs.Refusals.{are_lengths}
 use Rattle.checks.specs.Tests.{test, checked_by}
 use Rattle.checks.specs.declared.refusal.Refusal.{Refusal}
 use Rattle.checks.specs.declared.refusal.Refusal.TheVariants.{InvalidRow}
-use Rattle.checks.specs.declared.refusal.Checked.{Checked}
-use Rattle.checks.specs.declared.refusal.Checked.TheVariants.{Accepted, Refused}
 use Rattle.checks.proofs.Passed.{store_lengths, log_size_passed}
-use Rattle.checks.proofs.Tests.{AllPass, all_pass, then_others, still_refused, one_test}
+use Rattle.checks.proofs.Tests.{AllPass, all_pass, then_test, still_refused}
 use Rattle.store.specs.declared.layout.Layout.{Layout}
 use Rattle.store.specs.Store.{layout, rows_of, Fit}
 use Rattle.store.proofs.Lent.{lengths_fit}
 use Rattle.rarity.specs.Scores.{are_ordered}
-use Rattle.scoring.specs.Entry.{all_valid, store_rows, size_tests, scoring_checked, scoring_answer, ordered_answer}
-use Rattle.scoring.specs.declared.ScoringAnswer.TheVariants as answer
+use Rattle.scoring.specs.Entry.{all_valid, size_tests, scoring_checked, scoring_answer, ordered_answer}
+use Rattle.scoring.specs.declared.ScoringError.TheVariants.{Refused}
 
 -- sizes that pass
 pub record Sizes (memory log rows : ℕ) (words marks : List ℕ) (scores : List Float) : Type 0 where
@@ -44,35 +36,33 @@ module _ (memory log rows : ℕ) (words marks : List ℕ) (scores : List Float) 
       }
 
   -- of a call that is accepted
-  pub accepted_sizes : scoring_checked memory log rows words marks scores ≡ Accepted → Sizes memory log rows words marks scores
+  pub accepted_sizes : scoring_checked memory log rows words marks scores ≡ Ok tt → Sizes memory log rows words marks scores
   unfolding scoring_checked
   accepted_sizes h =
       let p = all_pass _ refl h in
       sizes_pass (p.0, (p.1.0, (p.1.1.0, (p.1.1.1.0, tt))))
 
-  module _ {sizes : Checked} (e : sizes ≡ checked_by (size_tests memory log rows (length words) (length marks) (length scores))) where
-    pub sizes_accepted : sizes ≡ Accepted → Sizes memory log rows words marks scores
+  module _ {sizes : Result (Unit {0}) Refusal} (e : sizes ≡ checked_by (size_tests memory log rows (length words) (length marks) (length scores))) where
+    pub sizes_accepted : sizes ≡ Ok tt → Sizes memory log rows words marks scores
     sizes_accepted h = sizes_pass (all_pass _ e h)
 
-    pub answer_refused : {f : Refusal} (computed : List Float) → sizes ≡ Refused f
-        → answer.Refused f ≡ scoring_answer (scoring_checked memory log rows words marks scores) computed
+    pub answer_refused : {f : Refusal} (computed : List Float) → sizes ≡ Err f
+        → Err (Refused f) ≡ scoring_answer (scoring_checked memory log rows words marks scores) computed
     unfolding scoring_checked scoring_answer
     answer_refused computed h = rw (still_refused (size_tests memory log rows (length words) (length marks) (length scores)) e _ h)
 
     -- what is answered once the rows are looked at
-    module _ (h : sizes ≡ Accepted) {s : Layout} (is : s ≡ layout rows (memory / 8) log) {t : Bool} (v : t ≡ all_valid (rows_of s words marks))
-        (computed : List Float) where
-      checked : scoring_checked memory log rows words marks scores ≡ cond t Accepted (Refused InvalidRow)
+    module _ (h : sizes ≡ Ok tt) {s : Layout} (is : s ≡ layout rows (memory / 8) log) {valid : Bool} (v : valid ≡ all_valid (rows_of s words marks))
+        {tested : Result (Unit {0}) Refusal} (d : tested ≡ checked_by (test valid InvalidRow ∷ [])) (computed : List Float) where
+      checked : scoring_checked memory log rows words marks scores ≡ tested
       unfolding scoring_checked
       checked =
-          let last = test (all_valid (store_rows memory log rows words marks)) InvalidRow ∷ [] in
-          then_others (size_tests memory log rows (length words) (length marks) (length scores)) e last h
-          ∙ one_test InvalidRow (v ∙ ap (λ (q : Layout). all_valid (rows_of q words marks)) is)
+          then_test (size_tests memory log rows (length words) (length marks) (length scores)) e InvalidRow h (v ∙ ap (λ (q : Layout). all_valid (rows_of q words marks)) is) d
 
-      pub valid_answer : t ≡ true → ordered_answer (are_ordered computed) ≡ scoring_answer (scoring_checked memory log rows words marks scores) computed
+      pub valid_answer : tested ≡ Ok tt → ordered_answer (are_ordered computed) ≡ scoring_answer (scoring_checked memory log rows words marks scores) computed
       unfolding scoring_answer
       valid_answer k = rw (checked, k)
 
-      pub invalid_answer : t ≡ false → answer.Refused InvalidRow ≡ scoring_answer (scoring_checked memory log rows words marks scores) computed
+      pub invalid_answer : {f : Refusal} → tested ≡ Err f → Err (Refused f) ≡ scoring_answer (scoring_checked memory log rows words marks scores) computed
       unfolding scoring_answer
       invalid_answer k = rw (checked, k)

@@ -1,23 +1,17 @@
--- The bound of document 01 for the entry: a call that is accepted scores its rows, and each score is finite, at least 1, and within one part
+-- The bound for the entry: a call that is accepted scores its rows, and each score is finite, at least 1, and within one part
 -- in 2^32 of its exact mean.
-use mathlib.Core.Path.{◌≡◌, refl, ◌∙◌}
+use Rattle.std.proofs.Common.{◌≡◌, refl, ◌∙◌, List, [], ◌∷◌, map, ℕ, zero, suc, ◌/◌, ◌≤◌, le_trans, arith, Float, length, drop, length-take, Result, Ok}
 use mathlib.Core.List.Memᴰ
-use mathlib.Core.List.{List, [], ◌∷◌, map, Memᴰ}
-use Prim.Native.Nat.{ℕ, zero, suc, ◌/◌, ◌≤◌}
-use native.Mathlib.Nat.{le_trans}
-use native.Mathlib.Omega.{arith}
-use lib.Ieee.{Float}
-use lib.ListN.{length, drop, length-take}
+use mathlib.Core.List.{Memᴰ}
 use Rattle.rows.specs.Limits.{most_rows}
 use Rattle.rows.specs.Rows.{Row}
-use Rattle.checks.specs.declared.refusal.Checked.TheVariants.{Accepted}
 use Rattle.store.specs.Store.{most_marks, layout, cut}
 use Rattle.store.proofs.Rows.{length_rows}
 use Rattle.means.specs.declared.MeanType.{MeanType}
 use Rattle.rarity.specs.Scores.{score}
 use Rattle.rarity.proofs.Bounds.{scored, scores_ordered}
 use Rattle.scoring.specs.Entry.{scoring_checked, scoring_answer, scores_left, store_rows, store_scores, Bounded, AlwaysScored, ScoresBounded}
-use Rattle.scoring.specs.declared.ScoringAnswer.{ScoringAnswer}
+use Rattle.scoring.specs.declared.ScoringError.{ScoringError}
 use Rattle.scoring.proofs.Accepted.{accepted_sizes}
 
 -- no row has more marks than are cut for it
@@ -36,7 +30,7 @@ bounded_among m all few short (r ∷ rows) among =
     (scored all few m i (short r i), bounded_among m all few short rows (λ q j. among q (Memᴰ.tail j)))
 
 module _ (memory log rows : ℕ) (m : MeanType) (words marks : List ℕ) (lent : List Float) where
-  module _ (h : scoring_checked memory log rows words marks lent ≡ Accepted) where
+  module _ (h : scoring_checked memory log rows words marks lent ≡ Ok tt) where
     few : length (store_rows memory log rows words marks) ≤ most_rows
     few =
         let s = layout rows (memory / 8) log in
@@ -48,24 +42,24 @@ module _ (memory log rows : ℕ) (m : MeanType) (words marks : List ℕ) (lent :
         le_trans (cut_short rows s.words s.marks words marks i) (accepted_sizes memory log rows words marks lent h).fit.sized.memory
 
   -- what the entry answers and leaves, and what that comes to
-  abbrev Answers : ScoringAnswer → Type 0
+  abbrev Answers : Result (Unit {0}) ScoringError → Type 0
   Answers a = a ≡ scoring_answer (scoring_checked memory log rows words marks lent) (store_scores memory log rows m words marks)
 
-  abbrev Leaves : ScoringAnswer → List Float → Type 0
+  abbrev Leaves : Result (Unit {0}) ScoringError → List Float → Type 0
   Leaves a scores = scores ≡ scores_left a (store_scores memory log rows m words marks) lent
 
-  always_scored : {a : ScoringAnswer} → Answers a → AlwaysScored memory log rows words marks lent a
+  always_scored : {a : Result (Unit {0}) ScoringError} → Answers a → AlwaysScored memory log rows words marks lent a
   unfolding scoring_answer
   always_scored e h = e ∙ rw (h, scores_ordered _ _ (few h) (short h))
 
-  scores_bounded : {a : ScoringAnswer} {scores : List Float} → Answers a → Leaves a scores → ScoresBounded memory log rows m words marks lent scores
+  scores_bounded : {a : Result (Unit {0}) ScoringError} {scores : List Float} → Answers a → Leaves a scores → ScoresBounded memory log rows m words marks lent scores
   unfolding scores_left
   scores_bounded e l h =
       let all = store_rows memory log rows words marks in
       rw (l, always_scored e h) (bounded_among m all (few h) (short h) all (λ r i. i))
 
   -- the four clauses of the entry
-  pub promised : {a : ScoringAnswer} {scores : List Float} → Answers a → Leaves a scores → record {
+  pub promised : {a : Result (Unit {0}) ScoringError} {scores : List Float} → Answers a → Leaves a scores → record {
     value : Answers a;
     scores_after : Leaves a scores;
     always_scored : AlwaysScored memory log rows words marks lent a;

@@ -1,13 +1,5 @@
 -- One turn of each loop of this crate, and what score_store computes.
-use mathlib.Core.Path.{◌≡◌, sym, ap, ◌∙◌}
-use mathlib.Core.Bool.{Bool, true, false, ◌&&◌}
-use mathlib.Core.List.{List, []}
-use Prim.Native.Nat.{ℕ, ◌+◌, ◌-◌, ◌≤◌, ◌<◌}
-use native.Mathlib.Numerals.{add-one}
-use native.Mathlib.Omega.{arith}
-use lib.Ieee.{Float, nan}
-use lib.ListN.{length, get_or, set, take, drop, replicate, drop_of_length-le, length-set}
-use lib.Seq.{take-suc, take-suc-set, take_all, drop-cons}
+use Rattle.std.proofs.Common.{◌≡◌, sym, ap, ◌∙◌, Bool, true, false, ◌&&◌, List, [], ℕ, ◌+◌, ◌-◌, ◌≤◌, ◌<◌, add-one, arith, Float, length, take, drop, replicate, drop_of_length-le, drop-cons, Ok, Err}
 use Rattle.laws.proofs.Fronts.{front_alike}
 use Rattle.rows.specs.Limits.{most_rows}
 use Rattle.rows.specs.Rows.{row}
@@ -19,7 +11,7 @@ use Rattle.means.specs.declared.MeanType.{MeanType}
 use Rattle.rarity.specs.Scores.{scores_of, flagged_scores, are_ordered}
 use Rattle.rarity.proofs.Among.{all_taking}
 use Rattle.scoring.specs.Entry.{all_valid, ordered_answer}
-use Rattle.scoring.specs.declared.ScoringAnswer.TheVariants.{Scored, ScoresUnordered}
+use Rattle.scoring.specs.declared.ScoringError.TheVariants.{ScoresUnordered}
 
 -- the rows from r on are valid just where row r is and those after it
 module _ {s : Layout} {words marks : List ℕ} (f : Fit s words marks) (r : ℕ) (h : r < s.rows) {t : Bool}
@@ -42,23 +34,6 @@ valid_all s words marks r h =
     let l : length (rows_of s words marks) ≤ r = omega (arith, length_rows s.rows s.words s.marks words marks) in
     rw (drop_of_length-le (rows_of s words marks) l)
 
--- the first i scores are copied
-pub record Copied (from : List Float) (i : ℕ) (to : List Float) : Type 0 where
-  pub same : length to ≡ length from
-  pub first : take i to ≡ take i from
-
-module _ {from to : List Float} {i : ℕ} (c : Copied from i to) where
-  pub copy_on : i < length from → Copied from (i + 1) (set to i (get_or from i nan))
-  copy_on h =
-      let l : i < length to = omega (arith, c.same) in
-      record {
-        same = length-set to i (get_or from i nan) ∙ c.same;
-        first = rw (add-one, take-suc-set to i (get_or from i nan) l, take-suc from i nan h, c.first);
-      }
-
-  pub copy_all : length from ≤ i → to ≡ from
-  copy_all h = sym (take_all i to (omega (arith, c.same))) ∙ c.first ∙ take_all i from h
-
 -- with the first of 4096 flags, all of them set, all rows are scored
 pub all_scored : (m : MeanType) (s : Layout) (words marks : List ℕ) → s.rows ≤ most_rows
     → flagged_scores m (take (s.rows - 0) (drop 0 (replicate 4096 true))) (rows_of s words marks) ≡ scores_of m (rows_of s words marks)
@@ -68,8 +43,8 @@ all_scored m s words marks h =
 
 -- what is answered of the scores in a part
 module _ {t : Bool} {part scores : List Float} (d : t ≡ are_ordered part) (e : part ≡ scores) where
-  pub ordered : t ≡ true → Scored ≡ ordered_answer (are_ordered scores)
+  pub ordered : t ≡ true → Ok tt ≡ ordered_answer (are_ordered scores)
   ordered h = rw (← e, ← d, h)
 
-  pub unordered : t ≡ false → ScoresUnordered ≡ ordered_answer (are_ordered scores)
+  pub unordered : t ≡ false → Err ScoresUnordered ≡ ordered_answer (are_ordered scores)
   unordered h = rw (← e, ← d, h)

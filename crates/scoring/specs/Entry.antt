@@ -1,19 +1,18 @@
 -- The scoring entry: what it refuses, what it answers, and the scores that it leaves.
-use Rattle.std.specs.Prelude.{Bool, true, cond, ◌&&◌, List, [], ◌∷◌, ◌++◌, ◌≡◌, ℕ, ◌/◌, eqb, Float, length}
+use Rattle.std.specs.Prelude.{Result, Ok, Err, Bool, true, cond, ◌&&◌, List, [], ◌∷◌, ◌++◌, ◌≡◌, ℕ, ◌/◌, eqb, Float, length}
 use Rattle.rows.specs.Rows.{Row}
 use Rattle.rows.specs.Valid.{valid_row}
 use Rattle.checks.specs.Refusals.{refusal_number, is_memory_size, is_amount_of_states, is_log_size, are_lengths}
 use Rattle.checks.specs.Tests.{Test, test, checked_by}
+use Rattle.checks.specs.declared.refusal.Refusal.{Refusal}
 use Rattle.checks.specs.declared.refusal.Refusal.TheVariants.{MemorySize, AmountOfStates, LogSize, LentLengths, InvalidRow}
-use Rattle.checks.specs.declared.refusal.Checked.{Checked}
-use Rattle.checks.specs.declared.refusal.Checked.TheVariants as checked
 use Rattle.means.specs.declared.MeanType.{MeanType}
 use Rattle.means.specs.Means.{Scores, exact_mean}
 use Rattle.counting.specs.Counters.{counters_of}
 use Rattle.store.specs.Store.{layout, rows_of}
 use Rattle.rarity.specs.Scores.{scores_of, are_ordered}
-use Rattle.scoring.specs.declared.ScoringAnswer.{ScoringAnswer}
-use Rattle.scoring.specs.declared.ScoringAnswer.TheVariants as answer
+use Rattle.scoring.specs.declared.ScoringError.{ScoringError}
+use Rattle.scoring.specs.declared.ScoringError.TheVariants.{ScoresUnordered, Refused}
 
 unfoldable pub all_valid : List Row → Bool
 all_valid [] = true
@@ -33,31 +32,30 @@ size_tests memory log rows words marks scores =
     ∷ []
 
 -- then 9
-unfoldable pub scoring_checked : ℕ → ℕ → ℕ → List ℕ → List ℕ → List Float → Checked
+unfoldable pub scoring_checked : ℕ → ℕ → ℕ → List ℕ → List ℕ → List Float → Result (Unit {0}) Refusal
 scoring_checked memory log rows words marks scores =
     checked_by
     (size_tests memory log rows (length words) (length marks) (length scores)
     ++ (test (all_valid (store_rows memory log rows words marks)) InvalidRow ∷ []))
 
 -- 31 where scores cannot be ordered
-abbrev pub ordered_answer : Bool → ScoringAnswer
-ordered_answer b = cond b answer.Scored answer.ScoresUnordered
+abbrev pub ordered_answer : Bool → Result (Unit {0}) ScoringError
+ordered_answer b = cond b (Ok tt) (Err ScoresUnordered)
 
-unfoldable pub scoring_answer : Checked → List Float → ScoringAnswer
-scoring_answer checked.Accepted scores = ordered_answer (are_ordered scores)
-scoring_answer (checked.Refused f) scores = answer.Refused f
+unfoldable pub scoring_answer : Result (Unit {0}) Refusal → List Float → Result (Unit {0}) ScoringError
+scoring_answer (Ok t) scores = ordered_answer (are_ordered scores)
+scoring_answer (Err f) scores = Err (Refused f)
 
 -- the lent scores afterwards: unchanged unless the rows are scored
-unfoldable pub scores_left : ScoringAnswer → List Float → List Float → List Float
-scores_left answer.Scored scores lent = scores
-scores_left answer.ScoresUnordered scores lent = lent
-scores_left (answer.Refused f) scores lent = lent
+unfoldable pub scores_left : Result (Unit {0}) ScoringError → List Float → List Float → List Float
+scores_left (Ok t) scores lent = scores
+scores_left (Err e) scores lent = lent
 
 -- all rows are counted, and all are scored
 abbrev pub store_scores : ℕ → ℕ → ℕ → MeanType → List ℕ → List ℕ → List Float
 store_scores memory log rows m words marks = scores_of m (store_rows memory log rows words marks)
 
--- one score a row, each within document 01's bound of the exact mean of the row's counters over all rows
+-- one score a row, each within the bound of the exact mean of the row's counters over all rows
 abbrev pub Bounded : MeanType → List Row → List Row → List Float → Type 0
 Bounded m all [] [] = Unit {0}
 Bounded m all [] (x ∷ scores) = ⊥
@@ -65,16 +63,16 @@ Bounded m all (r ∷ rows) [] = ⊥
 Bounded m all (r ∷ rows) (x ∷ scores) = Scores x (exact_mean m (counters_of all r)) × Bounded m all rows scores
 
 -- of a call that is not refused: 31 is never given
-abbrev pub AlwaysScored : ℕ → ℕ → ℕ → List ℕ → List ℕ → List Float → ScoringAnswer → Type 0
-AlwaysScored memory log rows words marks lent a = scoring_checked memory log rows words marks lent ≡ checked.Accepted → a ≡ answer.Scored
+abbrev pub AlwaysScored : ℕ → ℕ → ℕ → List ℕ → List ℕ → List Float → Result (Unit {0}) ScoringError → Type 0
+AlwaysScored memory log rows words marks lent a = scoring_checked memory log rows words marks lent ≡ Ok tt → a ≡ Ok tt
 
 -- of a call that is not refused: the scores that it leaves keep the bound
 abbrev pub ScoresBounded : ℕ → ℕ → ℕ → MeanType → List ℕ → List ℕ → List Float → List Float → Type 0
 ScoresBounded memory log rows m words marks lent scores =
-    scoring_checked memory log rows words marks lent ≡ checked.Accepted
+    scoring_checked memory log rows words marks lent ≡ Ok tt
     → Bounded m (store_rows memory log rows words marks) (store_rows memory log rows words marks) scores
 
-abbrev pub scoring_number : ScoringAnswer → ℕ
-scoring_number answer.Scored = 0
-scoring_number answer.ScoresUnordered = 31
-scoring_number (answer.Refused f) = refusal_number f
+abbrev pub scoring_number : Result (Unit {0}) ScoringError → ℕ
+scoring_number (Ok t) = 0
+scoring_number (Err ScoresUnordered) = 31
+scoring_number (Err (Refused f)) = refusal_number f

@@ -7,10 +7,11 @@ ghost use Rattle.checks.specs.Tests.{checked_by};
 ghost use Rattle.store.specs.Store.{Fit, rows_of};
 ghost use Rattle.rarity.specs.Scores.{scores_of, are_ordered};
 ghost use Rattle.scoring.specs.Entry.{all_valid, size_tests, scoring_checked, ordered_answer, scoring_answer, scores_left, store_scores, scoring_number};
+ghost use Rattle.scoring.specs.declared.ScoringError.TheVariants.{Refused};
 ghost use Rattle.scoring.specs.Entry.{AlwaysScored, ScoresBounded};
 
 use checks::refusal::{
-    Checked, Refusal, are_lengths, is_amount_of_states, is_log_size, is_memory_size,
+    Refusal, are_lengths, is_amount_of_states, is_log_size, is_memory_size, test,
 };
 use checks::valid_row::valid_row;
 use means::MeanType;
@@ -18,25 +19,30 @@ use rarity::{are_ordered, score_rows};
 use rows::limits::MOST_ROWS;
 use store::layout::Layout;
 
-// What scoring answers.
+// Why rows are not scored.
 #[derive(Clone, Copy)]
-pub enum ScoringAnswer {
-    Scored,
+pub enum ScoringError {
     // The Rust's `expect`: scores that cannot be ordered.
     ScoresUnordered,
     Refused(Refusal),
 }
 
-impl ScoringAnswer {
-    // Document 01's number.
-    pub fn number(self) -> u64
-        ensures { result ≡ scoring_number self }
-    {
-        match self {
-            ScoringAnswer::Scored => 0,
-            ScoringAnswer::ScoresUnordered => 31,
-            ScoringAnswer::Refused(refusal) => refusal.number(),
-        }
+impl From<Refusal> for ScoringError {
+    ghost from_gives = { λ refusal e. e ≡ Refused refusal };
+
+    fn from(refusal: Refusal) -> ScoringError {
+        ScoringError::Refused(refusal)
+    }
+}
+
+// The number that hosts are told: 0 for rows that are scored.
+pub fn scoring_number(answer: Result<(), ScoringError>) -> u64
+    ensures { result ≡ scoring_number answer }
+{
+    match answer {
+        Ok(()) => 0,
+        Err(ScoringError::ScoresUnordered) => 31,
+        Err(ScoringError::Refused(refusal)) => refusal.number(),
     }
 }
 
@@ -45,8 +51,7 @@ fn all_valid(words: &[u64], marks: &[u8], store: Layout) -> bool
     requires { Fit store words.now marks.now }
     ensures { result ≡ all_valid (rows_of store words.now marks.now) }
 {
-    let mut r = 0;
-    while r < store.rows {
+    for r in 0..store.rows {
         let word = r * store.words;
         let mark = r * store.marks;
         if !valid_row(
@@ -55,7 +60,6 @@ fn all_valid(words: &[u64], marks: &[u8], store: Layout) -> bool
         ) {
             return false;
         }
-        r += 1;
     }
     true
 }
@@ -68,42 +72,20 @@ fn check_sizes(
     log: u64,
     rows: u64,
     scores: usize,
-) -> Checked
+) -> Result<(), Refusal>
     ensures { result ≡ checked_by (size_tests memory log rows (length words.now) (length marks.now) scores) }
 {
-    if !is_memory_size(memory) {
-        return Checked::Refused(Refusal::MemorySize);
-    }
-    if !is_amount_of_states(rows) {
-        return Checked::Refused(Refusal::AmountOfStates);
-    }
-    if !is_log_size(log) {
-        return Checked::Refused(Refusal::LogSize);
-    }
-    if !are_lengths(
+    test(is_memory_size(memory), Refusal::MemorySize)?;
+    test(is_amount_of_states(rows), Refusal::AmountOfStates)?;
+    test(is_log_size(log), Refusal::LogSize)?;
+    let lengths = are_lengths(
         rows,
         memory / 8,
         log,
         words.len() as u64,
         marks.len() as u64,
-    ) {
-        return Checked::Refused(Refusal::LentLengths);
-    }
-    if scores as u64 != rows {
-        return Checked::Refused(Refusal::LentLengths);
-    }
-    Checked::Accepted
-}
-
-fn copy_scores(from: &[f64], to: &mut [f64])
-    requires { length from.now ≡ length to.old }
-    ensures { to.new ≡ from.now }
-{
-    let mut i = 0;
-    while i < from.len() {
-        to[i] = from[i];
-        i += 1;
-    }
+    );
+    test(lengths && scores as u64 == rows, Refusal::LentLengths)
 }
 
 // Scores all rows; the lent scores are written only if they can be ordered.
@@ -114,7 +96,7 @@ fn score_store(
     store: Layout,
     mean: MeanType,
     scores: &mut [f64],
-) -> ScoringAnswer
+) -> Result<(), ScoringError>
     requires fit { Fit store words.now marks.now }
     requires a_score_each { length scores.old ≡ store.rows }
     ensures value { result ≡ ordered_answer (are_ordered (scores_of mean (rows_of store words.now marks.now))) }
@@ -125,10 +107,10 @@ fn score_store(
     let mut computed = [0.0; MOST_ROWS];
     score_rows(words, marks, store, &flags[0..n], mean, &mut computed[0..n]);
     if !are_ordered(&computed[0..n]) {
-        return ScoringAnswer::ScoresUnordered;
+        return Err(ScoringError::ScoresUnordered);
     }
-    copy_scores(&computed[0..n], scores);
-    ScoringAnswer::Scored
+    scores.copy_from_slice(&computed[0..n]);
+    Ok(())
 }
 
 // Scores `rows` rows of a memory of `memory` bytes and `log` log words each, one score a row.
@@ -141,7 +123,7 @@ pub fn score_with_mean(
     rows: u64,
     mean: MeanType,
     scores: &mut [f64],
-) -> ScoringAnswer
+) -> Result<(), ScoringError>
     ensures value { result ≡ scoring_answer (scoring_checked memory log rows words.now marks.now scores.old)
         (store_scores memory log rows mean words.now marks.now) }
     ensures scores_after { scores.new
@@ -149,16 +131,8 @@ pub fn score_with_mean(
     ensures always_scored { AlwaysScored memory log rows words.now marks.now scores.old result }
     ensures scores_bounded { ScoresBounded memory log rows mean words.now marks.now scores.old scores.new }
 {
-    let sizes = check_sizes(words, marks, memory, log, rows, scores.len());
-    match sizes {
-        Checked::Accepted => {
-            let store = Layout::new(rows as usize, memory / 8, log);
-            if all_valid(words, marks, store) {
-                score_store(words, marks, store, mean, scores)
-            } else {
-                ScoringAnswer::Refused(Refusal::InvalidRow)
-            }
-        }
-        Checked::Refused(refusal) => ScoringAnswer::Refused(refusal),
-    }
+    check_sizes(words, marks, memory, log, rows, scores.len())?;
+    let store = Layout::new(rows as usize, memory / 8, log);
+    test(all_valid(words, marks, store), Refusal::InvalidRow)?;
+    score_store(words, marks, store, mean, scores)
 }

@@ -1,12 +1,7 @@
-use Rattle.std.proofs.Common.{◌≡◌, ◌-◌, ◌≤◌, drop}
+use Rattle.std.proofs.Common.{◌≡◌, drop}
 use Rattle.store.specs.Store.{rows_of}
 use Rattle.scoring.specs.Entry.{all_valid}
 use Rattle.scoring.proofs.all_valid.Given as goal
 
 abbrev pub invariant-loop-r : goal.invariant-loop-r
-invariant-loop-r l =
-    let rows = rows_of l.store l.words l.marks in
-    record { within : l.r ≤ l.store.rows; left : all_valid (drop l.r rows) ≡ all_valid rows }
-
-abbrev pub decreases-loop-r : goal.decreases-loop-r
-decreases-loop-r l = l.store.rows - l.r
+invariant-loop-r l = let rows = rows_of l.store l.words l.marks in all_valid (drop l.r rows) ≡ all_valid rows

@@ -22,4 +22,4 @@ pub returns-clause-scores_after : goal.returns-clause-scores_after
 unfolding scores_left
 returns-clause-scores_after c =
     let few = c.requires.fit.sized.few in
-    c.copy_scores.ensures ∙ front_part _ _ _ few c.score_rows.auto.scores ∙ c.score_rows.ensures ∙ all_scored _ _ _ _ few
+    c.copy_from_slice.ensures.after ∙ front_part _ _ _ few c.score_rows.auto.scores ∙ c.score_rows.ensures ∙ all_scored _ _ _ _ few

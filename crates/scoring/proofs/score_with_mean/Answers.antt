@@ -1,4 +1,5 @@
-use Rattle.std.proofs.Common.{refl, ◌∙◌}
+use Rattle.std.proofs.Common.{◌∙◌}
+use Rattle.std.proofs.lemmas.Result.{err_from_is_err_and}
 use Rattle.scoring.specs.Entry.{scores_left}
 use Rattle.scoring.proofs.Accepted.{sizes_accepted, valid_answer, invalid_answer, answer_refused}
 use Rattle.scoring.proofs.Scored.{promised}
@@ -7,40 +8,44 @@ use Rattle.scoring.proofs.score_with_mean.Goals as goal
 pub new-store-requires : goal.new-store-requires
 new-store-requires c =
     let a = c.args in
-    let z = sizes_accepted a.memory a.log a.rows a.words.now a.marks.now a.scores.now c.check_sizes-sizes.ensures c.in-Accepted.is in
+    let z = sizes_accepted a.memory a.log a.rows a.words.now a.marks.now a.scores.now c.check_sizes.ensures c.in_ok-check_sizes.was in
     record { memory = z.memory_most; log = z.log_most }
 
 pub all_valid-requires : goal.all_valid-requires
 all_valid-requires c =
     let a = c.args in
-    let z = sizes_accepted a.memory a.log a.rows a.words.now a.marks.now a.scores.now c.check_sizes-sizes.ensures c.in-Accepted.is in
+    let z = sizes_accepted a.memory a.log a.rows a.words.now a.marks.now a.scores.now c.check_sizes.ensures c.in_ok-check_sizes.was in
     rw c.new-store.ensures z.fit
 
 pub score_store-requires : goal.score_store-requires
 score_store-requires c =
     let a = c.args in
-    let z = sizes_accepted a.memory a.log a.rows a.words.now a.marks.now a.scores.now c.check_sizes-sizes.ensures c.in-Accepted.is in
+    let z = sizes_accepted a.memory a.log a.rows a.words.now a.marks.now a.scores.now c.check_sizes.ensures c.in_ok-check_sizes.was in
     rw c.new-store.ensures (record { fit = z.fit; a_score_each = z.one_each })
 
-pub returns-then-all_valid : goal.returns-then-all_valid
-returns-then-all_valid c =
+pub returns-in_err-check_sizes : goal.returns-in_err-check_sizes
+unfolding scores_left
+returns-in_err-check_sizes c =
+    let a = c.args in
+    let e = err_from_is_err_and c.from_residual.result c.from_residual.ensures.1 in
+    promised a.memory a.log a.rows a.mean a.words.now a.marks.now a.scores.now
+    (rw (e.1, e.2) (answer_refused _ _ _ _ _ _ c.check_sizes.ensures _ c.in_err-check_sizes.was)) (rw e.1)
+
+pub returns-in_err-test : goal.returns-in_err-test
+unfolding scores_left
+returns-in_err-test c =
+    let a = c.args in
+    let e = err_from_is_err_and c.from_residual-in_err-test.result c.from_residual-in_err-test.ensures.1 in
+    promised a.memory a.log a.rows a.mean a.words.now a.marks.now a.scores.now
+    (rw (e.1, e.2)
+    (invalid_answer _ _ _ _ _ _ c.check_sizes.ensures c.in_ok-check_sizes.was c.new-store.ensures c.all_valid.ensures c.test.ensures _ c.in_err-test.was))
+    (rw e.1)
+
+pub returns : goal.returns
+returns c =
     let a = c.args in
     let n = c.new-store.ensures in
     let x = rw n at c.score_store.ensures in
     promised a.memory a.log a.rows a.mean a.words.now a.marks.now a.scores.now
-    (x.value ∙ valid_answer _ _ _ _ _ _ c.check_sizes-sizes.ensures c.in-Accepted.is n c.all_valid.ensures _ c.if-all_valid.true)
+    (x.value ∙ valid_answer _ _ _ _ _ _ c.check_sizes.ensures c.in_ok-check_sizes.was n c.all_valid.ensures c.test.ensures _ c.in_ok-test.was)
     x.scores_after
-
-pub returns-else-all_valid : goal.returns-else-all_valid
-unfolding scores_left
-returns-else-all_valid c =
-    let a = c.args in
-    promised a.memory a.log a.rows a.mean a.words.now a.marks.now a.scores.now
-    (invalid_answer _ _ _ _ _ _ c.check_sizes-sizes.ensures c.in-Accepted.is c.new-store.ensures c.all_valid.ensures _ c.if-all_valid.false)
-    refl
-
-pub returns-in-Refused : goal.returns-in-Refused
-unfolding scores_left
-returns-in-Refused c =
-    let a = c.args in
-    promised a.memory a.log a.rows a.mean a.words.now a.marks.now a.scores.now (answer_refused _ _ _ _ _ _ c.check_sizes-sizes.ensures _ c.in-Refused.is) refl
