@@ -12,40 +12,27 @@ ghost use Rattle.executor.specs.Entries.{pc_of_end, run_answer};
 
 use answers::answer::Answer;
 use answers::outcome::{Outcome, Progress};
-use checks::refusal::{Checked, Refusal, are_lengths, is_log_size, is_memory_size};
+use checks::refusal::{Refusal, are_lengths, is_log_size, is_memory_size, test};
 use checks::segments::check_segments;
 use checks::valid_row::valid_row;
 use machine::run::Ran;
 
-// What a run of one row answers.
-#[derive(Clone, Copy)]
-pub enum RunAnswer {
-    Refused(Refusal),
-    Ran(Ran),
-}
-
 const ONE_ROW: u64 = 1;
 
 #[tactic(auto, unfolding(checks::specs::Tests::checked_by))]
-fn check_sizes(words: &[u64], marks: &[u8], memory: u64, log: u64) -> Checked
+fn check_sizes(words: &[u64], marks: &[u8], memory: u64, log: u64) -> Result<(), Refusal>
     ensures { result ≡ checked_by (size_tests memory log (row words.now marks.now)) }
 {
-    if !is_memory_size(memory) {
-        return Checked::Refused(Refusal::MemorySize);
-    }
-    if !is_log_size(log) {
-        return Checked::Refused(Refusal::LogSize);
-    }
-    if !are_lengths(
+    test(is_memory_size(memory), Refusal::MemorySize)?;
+    test(is_log_size(log), Refusal::LogSize)?;
+    let lengths = are_lengths(
         ONE_ROW,
         memory / 8,
         log,
         words.len() as u64,
         marks.len() as u64,
-    ) {
-        return Checked::Refused(Refusal::LentLengths);
-    }
-    Checked::Accepted
+    );
+    test(lengths, Refusal::LentLengths)
 }
 
 // Makes a new executor of a program in a lent row.
@@ -59,22 +46,16 @@ pub fn new_executor(
     code: &[u8],
     data_address: u64,
     data: &[u8],
-) -> Checked
+) -> Result<(), Refusal>
     ensures value { result ≡ creation_checked memory log (image code_address code.now data_address «data».now)
         (row words.old marks.old) }
     ensures row_after { row words.new marks.new
         ≡ created_row result (image code_address code.now data_address «data».now) (row words.old marks.old) }
 {
-    let sizes = check_sizes(words, marks, memory, log);
-    let Checked::Accepted = sizes else {
-        return sizes;
-    };
-    let segments = check_segments(memory / 8, code_address, code, data_address, data);
-    let Checked::Accepted = segments else {
-        return segments;
-    };
+    check_sizes(words, marks, memory, log)?;
+    check_segments(memory / 8, code_address, code, data_address, data)?;
     loader::new_executor(words, marks, code_address, code, data_address, data);
-    Checked::Accepted
+    Ok(())
 }
 
 // Runs a lent row for at most `step` instructions more, on a lent tape from its front.
@@ -86,21 +67,13 @@ pub fn run(
     log: u64,
     step: u32,
     tape: &[u64],
-) -> RunAnswer
+) -> Result<Ran, Refusal>
     ensures { answered words.new marks.new result
         ≡ run_entry memory log step tape.now (row words.old marks.old) }
 {
-    let sizes = check_sizes(words, marks, memory, log);
-    match sizes {
-        Checked::Accepted => {
-            if valid_row(words, marks) {
-                RunAnswer::Ran(machine::run::run(words, marks, step, tape, 0))
-            } else {
-                RunAnswer::Refused(Refusal::InvalidRow)
-            }
-        }
-        Checked::Refused(refusal) => RunAnswer::Refused(refusal),
-    }
+    check_sizes(words, marks, memory, log)?;
+    test(valid_row(words, marks), Refusal::InvalidRow)?;
+    Ok(machine::run::run(words, marks, step, tape, 0))
 }
 
 fn pc_of_end(progress: Progress, pc: u64) -> u64
@@ -117,7 +90,7 @@ fn pc_of_end(progress: Progress, pc: u64) -> u64
 }
 
 fn answer_of(ran: Ran) -> Answer
-    ensures { result ≡ run_answer (RunAnswer.Ran ran) }
+    ensures { result ≡ run_answer (Ok ran) }
 {
     let progress = ran.progress;
     Answer {
@@ -129,14 +102,12 @@ fn answer_of(ran: Ran) -> Answer
     }
 }
 
-impl RunAnswer {
-    // Document 01's answer.
-    pub fn answer(self) -> Answer
-        ensures { result ≡ run_answer self }
-    {
-        match self {
-            RunAnswer::Refused(refusal) => Answer::refused(refusal.number()),
-            RunAnswer::Ran(ran) => answer_of(ran),
-        }
+// The answer in numbers, of a run that is refused or made.
+pub fn run_answer(answer: Result<Ran, Refusal>) -> Answer
+    ensures { result ≡ run_answer answer }
+{
+    match answer {
+        Ok(ran) => answer_of(ran),
+        Err(refusal) => Answer::refused(refusal.number()),
     }
 }

@@ -1,38 +1,41 @@
-use Rattle.std.proofs.Common.{sym, ◌∙◌, arith}
+use Rattle.std.proofs.Common.{arith}
+use Rattle.std.proofs.lemmas.Result.{err_from_is_err_and}
 use Rattle.rows.specs.Rows.{row}
-use Rattle.checks.proofs.Passed.{valid_limit}
 use Rattle.executor.specs.Entries.{run_answered, run_entry}
-use Rattle.executor.proofs.Accepted.{sizes_accepted, run_refused, run_tested}
+use Rattle.executor.proofs.Accepted.{sizes_accepted, run_refused, run_tested, run_limit}
 use Rattle.executor.proofs.run.Goals as goal
 
 pub valid_row-requires : goal.valid_row-requires
 valid_row-requires c =
     let a = c.args in
-    (sizes_accepted a.memory a.log (row a.words.now a.marks.now) c.check_sizes-sizes.ensures c.in-Accepted.is).shape
+    (sizes_accepted a.memory a.log (row a.words.now a.marks.now) c.check_sizes.ensures c.in_ok-check_sizes.was).shape
 
 pub run-requires-clause-shape : goal.run-requires-clause-shape
 run-requires-clause-shape c =
     let a = c.args in
-    (sizes_accepted a.memory a.log (row a.words.now a.marks.now) c.check_sizes-sizes.ensures c.in-Accepted.is).shape
+    (sizes_accepted a.memory a.log (row a.words.now a.marks.now) c.check_sizes.ensures c.in_ok-check_sizes.was).shape
 
 pub run-requires-clause-step_bound : goal.run-requires-clause-step_bound
 run-requires-clause-step_bound c =
-    omega (arith, valid_limit (row c.args.words.now c.args.marks.now) (sym c.valid_row.ensures ∙ c.if-valid_row.true))
-
-pub returns-then-valid_row : goal.returns-then-valid_row
-unfolding run_entry run_answered
-returns-then-valid_row c =
     let a = c.args in
-    rw (run_tested a.memory a.log (row a.words.now a.marks.now) c.check_sizes-sizes.ensures c.in-Accepted.is c.valid_row.ensures, c.if-valid_row.true, ← c.run.ensures)
+    omega (arith, run_limit a.memory a.log (row a.words.now a.marks.now) c.check_sizes.ensures c.in_ok-check_sizes.was c.valid_row.ensures c.test.ensures c.in_ok-test.was)
 
-pub returns-else-valid_row : goal.returns-else-valid_row
+pub returns-in_err-check_sizes : goal.returns-in_err-check_sizes
 unfolding run_entry run_answered
-returns-else-valid_row c =
+returns-in_err-check_sizes c =
     let a = c.args in
-    rw (run_tested a.memory a.log (row a.words.now a.marks.now) c.check_sizes-sizes.ensures c.in-Accepted.is c.valid_row.ensures, c.if-valid_row.false)
+    let e = err_from_is_err_and c.from_residual.result c.from_residual.ensures.1 in
+    rw (e.1, e.2, run_refused a.memory a.log (row a.words.now a.marks.now) c.check_sizes.ensures c.in_err-check_sizes.was)
 
-pub returns-in-Refused : goal.returns-in-Refused
+pub returns-in_err-test : goal.returns-in_err-test
 unfolding run_entry run_answered
-returns-in-Refused c =
+returns-in_err-test c =
     let a = c.args in
-    rw (run_refused a.memory a.log (row a.words.now a.marks.now) c.check_sizes-sizes.ensures c.in-Refused.is)
+    let e = err_from_is_err_and c.from_residual-in_err-test.result c.from_residual-in_err-test.ensures.1 in
+    rw (e.1, e.2, run_tested a.memory a.log (row a.words.now a.marks.now) c.check_sizes.ensures c.in_ok-check_sizes.was c.valid_row.ensures c.test.ensures, c.in_err-test.was)
+
+pub returns : goal.returns
+unfolding run_entry run_answered
+returns c =
+    let a = c.args in
+    rw (run_tested a.memory a.log (row a.words.now a.marks.now) c.check_sizes.ensures c.in_ok-check_sizes.was c.valid_row.ensures c.test.ensures, c.in_ok-test.was, ← c.run.ensures)
