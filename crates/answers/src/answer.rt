@@ -4,7 +4,7 @@ ghost use Rattle.answers.specs.Answers.{refused_answer};
 
 // Document 01's answer: a number, and what belongs to it.
 #[repr(C)]
-#[derive(Clone, Copy)]
+#[derive(Clone, Copy, PartialEq)]
 pub struct Answer {
     pub number: u64,
     pub row: u64,

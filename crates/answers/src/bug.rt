@@ -14,12 +14,12 @@ pub enum Bug {
     ExitCodeGreaterZero(u64),
 }
 
-// Who used a word that nobody wrote.
+// Who used a word that nobody wrote, each with its value.
 #[derive(Clone, Copy)]
 pub enum UninitializedMemoryAccessReason {
-    InstructionWithUninitializedOperand,
+    InstructionWithUninitializedOperand = 1,
     // by the write call
-    ReadUninitializedMemoryAddress,
+    ReadUninitializedMemoryAddress = 2,
 }
 
 impl Bug {
@@ -39,14 +39,10 @@ impl Bug {
         ensures { result ≡ bug_value self }
     {
         match self {
-            Bug::DivisionByZero => 0,
-            Bug::AccessToUninitializedMemory(reason) => match reason {
-                UninitializedMemoryAccessReason::InstructionWithUninitializedOperand => 1,
-                UninitializedMemoryAccessReason::ReadUninitializedMemoryAddress => 2,
-            },
+            Bug::AccessToUninitializedMemory(reason) => reason as u64,
             Bug::AccessToUnalignedAddress(address) => address,
-            Bug::AccessToOutOfRangeAddress => 0,
             Bug::ExitCodeGreaterZero(exit_code) => exit_code,
+            Bug::DivisionByZero | Bug::AccessToOutOfRangeAddress => 0,
         }
     }
 }

@@ -1,7 +1,7 @@
 // What an executor cannot do (the Rust's RaritySimulationError, whose texts are reasons here).
 // Reaching the limit of a run is no error of this kind: see Progress in outcome.rt.
 ghost use Rattle.std.specs.Prelude.{◌≡◌};
-ghost use Rattle.answers.specs.Numbers.{error_number, error_value, reason_value};
+ghost use Rattle.answers.specs.Numbers.{error_number, error_value};
 
 // The errors, numbers 20, 21, 23, 24, 25 and 71.
 #[derive(Clone, Copy)]
@@ -16,44 +16,22 @@ pub enum ExecutorError {
     OutputFull,
 }
 
-// What 20 cannot do.
+// What 20 cannot do, each with its value.
 #[derive(Clone, Copy)]
 pub enum NotSupportedReason {
-    FetchUninitializedWord,
-    BrkUninitializedAddress,
-    ReadOtherThanStdin,
-    ReadUninitializedBuffer,
-    ReadUninitializedSize,
-    WriteOtherThanStdout,
-    WriteUninitializedBuffer,
-    WriteUninitializedSize,
-    ExitUninitializedCode,
-    UnknownSystemCall,
-    LdUninitializedBase,
-    SdUninitializedBase,
-    JalrUninitializedBase,
-}
-
-impl NotSupportedReason {
-    fn value(self) -> u64
-        ensures { result ≡ reason_value self }
-    {
-        match self {
-            NotSupportedReason::FetchUninitializedWord => 1,
-            NotSupportedReason::BrkUninitializedAddress => 2,
-            NotSupportedReason::ReadOtherThanStdin => 3,
-            NotSupportedReason::ReadUninitializedBuffer => 4,
-            NotSupportedReason::ReadUninitializedSize => 5,
-            NotSupportedReason::WriteOtherThanStdout => 6,
-            NotSupportedReason::WriteUninitializedBuffer => 7,
-            NotSupportedReason::WriteUninitializedSize => 8,
-            NotSupportedReason::ExitUninitializedCode => 9,
-            NotSupportedReason::UnknownSystemCall => 10,
-            NotSupportedReason::LdUninitializedBase => 11,
-            NotSupportedReason::SdUninitializedBase => 12,
-            NotSupportedReason::JalrUninitializedBase => 13,
-        }
-    }
+    FetchUninitializedWord = 1,
+    BrkUninitializedAddress = 2,
+    ReadOtherThanStdin = 3,
+    ReadUninitializedBuffer = 4,
+    ReadUninitializedSize = 5,
+    WriteOtherThanStdout = 6,
+    WriteUninitializedBuffer = 7,
+    WriteUninitializedSize = 8,
+    ExitUninitializedCode = 9,
+    UnknownSystemCall = 10,
+    LdUninitializedBase = 11,
+    SdUninitializedBase = 12,
+    JalrUninitializedBase = 13,
 }
 
 impl ExecutorError {
@@ -74,12 +52,8 @@ impl ExecutorError {
         ensures { result ≡ error_value self }
     {
         match self {
-            ExecutorError::NotSupported(reason) => reason.value(),
-            ExecutorError::InvalidInstructionEncoding => 0,
-            ExecutorError::PcOutOfRange => 0,
-            ExecutorError::TapeEmpty => 0,
-            ExecutorError::LogFull => 0,
-            ExecutorError::OutputFull => 0,
+            ExecutorError::NotSupported(reason) => reason as u64,
+            _ => 0,
         }
     }
 }

@@ -22,6 +22,16 @@ pub enum Progress {
     Ended(Outcome),
 }
 
+impl From<ExecutorError> for Outcome {
+    ghost use Rattle.answers.specs.declared.outcome.Outcome.TheVariants.{Failed};
+
+    ghost from_gives = { λ error outcome. outcome ≡ Failed error };
+
+    fn from(error: ExecutorError) -> Outcome {
+        Self::Failed(error)
+    }
+}
+
 impl Outcome {
     // Document 01's number: 0 for an exit with 0.
     pub fn number(self) -> u64

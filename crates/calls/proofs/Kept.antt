@@ -1,5 +1,5 @@
 -- What a system call leaves alone: the lengths of a row's words and marks, and its depth and limit.
-use Rattle.std.proofs.Common.{◌≡◌, ℕ, ◌+◌, ◌/◌, ◌<◌, cond, ltb, List, length, get_or, refl, ◌∙◌, arith, length-set, get_or-set_other}
+use Rattle.std.proofs.Common.{◌≡◌, Result, Ok, Err, ℕ, ◌+◌, ◌/◌, ◌<◌, cond, ltb, List, length, get_or, refl, ◌∙◌, arith, length-set, get_or-set_other}
 use Rattle.laws.proofs.Choices.{chosen}
 use Rattle.effects.specs.Effects.{following}
 use Rattle.calls.specs.declared.number.SyscallId.{SyscallId}
@@ -9,8 +9,8 @@ use Rattle.values.specs.declared.Value.TheVariants.{Concrete, Uninitialized}
 use Rattle.rows.specs.Rows.{Row, header, pc_of, break_of, depth_of, limit_of, memory_words, set_pc, set_break, slot_at}
 use Rattle.reading.specs.Reading.{running, bytes}
 use Rattle.reading.proofs.Kept.{then_kept, bytes_words, bytes_marks, bytes_header}
-use Rattle.calls.specs.declared.transfer.Transfer.{Transfer}
-use Rattle.calls.specs.declared.transfer.Transfer.TheVariants.{Buffer, Refused}
+use Rattle.answers.specs.declared.outcome.Outcome.{Outcome}
+use Rattle.calls.specs.declared.transfer.Buffer.{Buffer}
 use Rattle.calls.specs.Calls.{a0, a7, returned, brk, transfer_of, read_reasons, read_to, read, call_of, id_of, system, completed}
 
 -- f is what is kept: by a call, if by each way in which one writes a row
@@ -25,12 +25,12 @@ module _ {A : Type 0} (f : Row → A) (pc : (x : ℕ) (r : Row) → f (set_pc x 
       (λ t. chosen Same (ltb (wanted / 8) (memory_words r)) (set_break wanted r) refused (λ u. break wanted r) (λ u. answer (break_of r) r))
   brk_kept Uninitialized r = refl
 
-  read_to_kept : (to : Transfer) (tape : List ℕ) (used : ℕ) (r : Row) → f (read_to to tape used r).row ≡ f r
+  read_to_kept : (to : Result Buffer Outcome) (tape : List ℕ) (used : ℕ) (r : Row) → f (read_to to tape used r).row ≡ f r
   unfolding read_to
-  read_to_kept (Buffer buffer size) tape used r =
-      then_kept f (λ u s. running u (returned size s)) (λ u s. answer size s) (bytes size tape (buffer / 8) used r) r
-      (input size tape (buffer / 8) used r)
-  read_to_kept (Refused o) tape used r = search answer
+  read_to_kept (Ok b) tape used r =
+      then_kept f (λ u s. running u (returned b.size s)) (λ u s. answer b.size s) (bytes b.size tape (b.address / 8) used r) r
+      (input b.size tape (b.address / 8) used r)
+  read_to_kept (Err o) tape used r = search answer
 
   call_kept : (id : SyscallId) (tape : List ℕ) (used : ℕ) (r : Row) → f (call_of id tape used r).row ≡ f r
   unfolding call_of read

@@ -1,5 +1,5 @@
 -- The system calls on a row ("Executing" in document 01): brk, read, write, exit, and any other.
-use Rattle.std.specs.Prelude.{ℕ, zero, suc, ◌+◌, ◌/◌, ◌%◌, Bool, true, false, cond, List, ◌==◌, nat_lt}
+use Rattle.std.specs.Prelude.{ℕ, zero, suc, ◌+◌, ◌/◌, ◌%◌, Bool, true, false, cond, List, Result, Ok, Err, ◌==◌, nat_lt}
 use Rattle.answers.specs.declared.bug.Bug.TheVariants.{AccessToUninitializedMemory, AccessToOutOfRangeAddress, ExitCodeGreaterZero}
 use Rattle.answers.specs.declared.bug.UninitializedMemoryAccessReason.TheVariants.{ReadUninitializedMemoryAddress}
 use Rattle.answers.specs.declared.error.NotSupportedReason.{NotSupportedReason}
@@ -15,13 +15,11 @@ use Rattle.calls.specs.declared.number.SyscallId.{SyscallId}
 use Rattle.calls.specs.declared.number.SyscallId.TheVariants as call
 use Rattle.values.specs.declared.Value.{Value}
 use Rattle.values.specs.declared.Value.TheVariants.{Concrete, Uninitialized}
-use Rattle.rows.specs.Rows.{Row, row, pc_of, break_of, memory_words, set_pc, set_break, slot_at, set_slot, memory_at}
-use Rattle.calls.specs.declared.transfer.Transfer.{Transfer}
-use Rattle.calls.specs.declared.transfer.Transfer.TheVariants.{Buffer, Refused}
+use Rattle.rows.specs.Rows.{Row, pc_of, break_of, memory_words, set_pc, set_break, slot_at, set_slot, memory_at}
+use Rattle.calls.specs.declared.transfer.Buffer.{Buffer}
 use Rattle.calls.specs.declared.transfer.Reasons.{Reasons}
 use Rattle.calls.specs.declared.step.Step.{Step}
 use Rattle.calls.specs.declared.step.Step.TheVariants as step
-use Rattle.calls.specs.declared.step.Stepped.{Stepped}
 use Rattle.reading.specs.Reading.{Reached, running, ended, ◌then_on◌, bytes}
 
 -- registers a0, a1, a2 and a7
@@ -56,26 +54,26 @@ brk_progress (Concrete wanted) = Running
 brk_progress Uninitialized = Ended (unsupported reason.BrkUninitializedAddress)
 
 -- 44 if buffer/8 or (buffer + size)/8 is at or past W
-unfoldable pub valid_range : ℕ → ℕ → ℕ → Transfer
+unfoldable pub valid_range : ℕ → ℕ → ℕ → Result Buffer Outcome
 valid_range buffer size w =
     cond (nat_lt (buffer / 8) w)
-    (cond (nat_lt ((buffer + size) / 8) w) (Buffer buffer size) (Refused (Found AccessToOutOfRangeAddress)))
-    (Refused (Found AccessToOutOfRangeAddress))
+    (cond (nat_lt ((buffer + size) / 8) w) (Ok (record { address = buffer; size = size })) (Err (Found AccessToOutOfRangeAddress)))
+    (Err (Found AccessToOutOfRangeAddress))
 
 -- the buffer and size that a1 and a2 name, with the call's reasons of error 20
-unfoldable pub buffer_and_size : Reasons → Value → Value → ℕ → Transfer
+unfoldable pub buffer_and_size : Reasons → Value → Value → ℕ → Result Buffer Outcome
 buffer_and_size reasons (Concrete buffer) (Concrete size) w = valid_range buffer size w
-buffer_and_size reasons (Concrete buffer) Uninitialized w = Refused (unsupported reasons.size)
-buffer_and_size reasons Uninitialized size w = Refused (unsupported reasons.buffer)
+buffer_and_size reasons (Concrete buffer) Uninitialized w = Err (unsupported reasons.size)
+buffer_and_size reasons Uninitialized size w = Err (unsupported reasons.buffer)
 
 abbrev pub is_file : ℕ → Value → Bool
 is_file fd (Concrete n) = n == fd
 is_file fd Uninitialized = false
 
 -- a0 must be the call's file
-unfoldable pub transfer_of : ℕ → Reasons → Row → Transfer
+unfoldable pub transfer_of : ℕ → Reasons → Row → Result Buffer Outcome
 transfer_of fd reasons r =
-    cond (is_file fd (slot_at r a0)) (buffer_and_size reasons (slot_at r a1) (slot_at r a2) (memory_words r)) (Refused (unsupported reasons.file))
+    cond (is_file fd (slot_at r a0)) (buffer_and_size reasons (slot_at r a1) (slot_at r a2) (memory_words r)) (Err (unsupported reasons.file))
 
 abbrev pub read_reasons : Reasons
 read_reasons = record { file = reason.ReadOtherThanStdin; buffer = reason.ReadUninitializedBuffer; size = reason.ReadUninitializedSize }
@@ -83,10 +81,18 @@ read_reasons = record { file = reason.ReadOtherThanStdin; buffer = reason.ReadUn
 abbrev pub write_reasons : Reasons
 write_reasons = record { file = reason.WriteOtherThanStdout; buffer = reason.WriteUninitializedBuffer; size = reason.WriteUninitializedSize }
 
+-- what a call answers: it is done, or the executor has ended
+abbrev pub progress_of : Result (Unit {0}) Outcome → Progress
+progress_of (Ok _) = Running
+progress_of (Err o) = Ended o
+
+abbrev pub reached : Row → ℕ → Result (Unit {0}) Outcome → Reached
+reached r used result = record { row = r; moved = record { progress = progress_of result; used = used } }
+
 -- read: the buffer's words from buffer/8 on, then a0 = size
-unfoldable pub read_to : Transfer → List ℕ → ℕ → Row → Reached
-read_to (Buffer buffer size) tape used r = bytes size tape (buffer / 8) used r then_on λ used r. running used (returned size r)
-read_to (Refused o) tape used r = ended o used r
+unfoldable pub read_to : Result Buffer Outcome → List ℕ → ℕ → Row → Reached
+read_to (Ok b) tape used r = bytes b.size tape (b.address / 8) used r then_on λ used r. running used (returned b.size r)
+read_to (Err o) tape used r = ended o used r
 
 unfoldable pub read : List ℕ → ℕ → Row → Reached
 read tape used r = read_to (transfer_of 0 read_reasons r) tape used r
@@ -101,11 +107,11 @@ all_concrete zero m r = true
 all_concrete (suc n) m r = cond (is_concrete (memory_at r m)) (all_concrete n (m + 1) r) false
 
 -- write: a checked buffer is handed out; whoever runs the step completes it by a0 = size
-unfoldable pub write_from : Transfer → Row → Step
-write_from (Buffer buffer size) r =
-    cond (all_concrete ((size + buffer % 8 + 7) / 8) (buffer / 8) r) (step.Write buffer size)
+unfoldable pub write_from : Result Buffer Outcome → Row → Step
+write_from (Ok b) r =
+    cond (all_concrete ((b.size + b.address % 8 + 7) / 8) (b.address / 8) r) (step.Write b.address b.size)
     (step.Ended (Found (AccessToUninitializedMemory ReadUninitializedMemoryAddress)))
-write_from (Refused o) r = step.Ended o
+write_from (Err o) r = step.Ended o
 
 unfoldable pub write : Row → Step
 write r = write_from (transfer_of 1 write_reasons r) r
@@ -115,13 +121,15 @@ unfoldable pub exit : Value → Outcome
 exit (Concrete code) = cond (code == 0) Exited (Found (ExitCodeGreaterZero code))
 exit Uninitialized = unsupported reason.ExitUninitializedCode
 
--- a row, with what its instruction came to
+-- what an instruction came to, and the tape words used so far
+pub record Stepped : Type 0 where
+  pub step : Step
+  pub used : ℕ
+
+-- a row, with these
 pub record Called : Type 0 where
   pub row : Row
   pub stepped : Stepped
-
-abbrev pub called : List ℕ → List ℕ → Stepped → Called
-called words marks stepped = record { row = row words marks; stepped = stepped }
 
 abbrev pub step_to : Step → ℕ → Row → Called
 step_to s used r = record { row = r; stepped = record { step = s; used = used } }

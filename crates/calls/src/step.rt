@@ -1,8 +1,8 @@
 // What one instruction comes to.
 ghost use Rattle.std.specs.Prelude.{◌≡◌};
-ghost use Rattle.calls.specs.Calls.{step_of};
+ghost use Rattle.calls.specs.Calls.{progress_of, step_of};
 
-use answers::outcome::{Outcome, Progress};
+use answers::outcome::Outcome;
 
 // The next instruction may follow, a write call waits to be completed, or the executor has ended.
 #[derive(Clone, Copy)]
@@ -15,18 +15,11 @@ pub enum Step {
     Ended(Outcome),
 }
 
-// The same, and how many tape words are used so far.
-#[derive(Clone, Copy)]
-pub struct Stepped {
-    pub step: Step,
-    pub used: usize,
-}
-
-pub(crate) fn step_of(progress: Progress) -> Step
-    ensures { result ≡ step_of progress }
+pub(crate) fn step_of(called: Result<(), Outcome>) -> Step
+    ensures { result ≡ step_of (progress_of called) }
 {
-    match progress {
-        Progress::Running => Step::Running,
-        Progress::Ended(outcome) => Step::Ended(outcome),
+    match called {
+        Ok(()) => Step::Running,
+        Err(outcome) => Step::Ended(outcome),
     }
 }

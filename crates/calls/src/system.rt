@@ -1,21 +1,19 @@
 // The calls themselves, and the one that a7 names.
-ghost use Rattle.std.specs.Prelude.{◌≡◌, ◌+◌, ◌-◌, ◌≤◌, length};
-ghost use Rattle.rows.specs.Rows.{row, Shape, memory_in};
-ghost use Rattle.reading.specs.Reading.{reached};
-ghost use Rattle.calls.specs.Calls.{brk as brk_of, brk_progress, read_to, read as read_of, all_concrete, write_from, write as write_of, exit as exit_of};
-ghost use Rattle.calls.specs.Calls.{called, call_of, id_of, system as system_of, completed};
-ghost use Rattle.calls.specs.InMemory.{InMemory};
+ghost use Rattle.std.specs.Prelude.{◌≡◌, ◌+◌, ◌≤◌};
+ghost use Rattle.rows.specs.Rows.{memory_words};
+ghost use Rattle.rows.specs.Lent.{seen, lent, SameSlices};
+ghost use Rattle.calls.specs.Calls.{progress_of, brk as brk_of, brk_progress, reached, read as read_of, all_concrete, write as write_of, exit as exit_of};
+ghost use Rattle.calls.specs.Calls.{step_to, call_of, id_of, system as system_of, completed};
 
 use crate::number::{SyscallId, syscall_id};
-use crate::step::{Step, Stepped, step_of};
-use crate::transfer::{A0, A7, Reasons, Transfer, transfer_of, unsupported};
+use crate::step::{Step, step_of};
+use crate::transfer::{A0, A7, Reasons, transfer_of, unsupported};
 use answers::bug::{Bug, UninitializedMemoryAccessReason};
 use answers::error::NotSupportedReason;
-use answers::outcome::{Outcome, Progress};
-use reading::{Moved, read_bytes};
+use answers::outcome::Outcome;
+use reading::read_bytes;
 use riscu::instruction::INSTRUCTION_SIZE;
-use rows::row::{BREAK, PC, REGISTERS, read_memory, read_slot, write_slot};
-use std::num::wrapping_add_u64;
+use rows::row::{BREAK, PC, RowMut, RowRef};
 use values::Value;
 
 const STDIN: u64 = 0;
@@ -23,133 +21,77 @@ const STDIN: u64 = 0;
 const STDOUT: u64 = 1;
 
 #[tactic(auto, unfolding(crate::specs::Calls::brk, crate::specs::Calls::brk_progress))]
-fn execute_brk(words: &mut [u64], marks: &mut [u8], wanted: Value) -> Progress
-    requires { Shape words.old marks.old }
-    ensures value { result ≡ brk_progress wanted }
-    ensures row_after { row words.new marks.new ≡ brk_of wanted (row words.old marks.old) }
+fn execute_brk(row: &mut RowMut, wanted: Value) -> Result<(), Outcome>
+    ensures value { progress_of result ≡ brk_progress wanted }
+    ensures row_after { lent row.new ≡ brk_of wanted (lent row.old) }
+    ensures same_slices { SameSlices row.old row.new }
 {
     let Value::Concrete(address) = wanted else {
-        return Progress::Ended(unsupported(NotSupportedReason::BrkUninitializedAddress));
+        return Err(unsupported(NotSupportedReason::BrkUninitializedAddress));
     };
-    let program_break = words[BREAK];
-    let memory = (marks.len() - REGISTERS) as u64;
-    if address < program_break {
-        write_slot(words, marks, A0, Value::Concrete(program_break));
-        return Progress::Running;
+    let program_break = row.words[BREAK];
+    let memory = row.view().memory_words() as u64;
+    if address < program_break || memory <= address / 8 {
+        row.write_slot(A0, Value::Concrete(program_break));
+    } else {
+        row.words[BREAK] = address;
     }
-    if address / 8 < memory {
-        words[BREAK] = address;
-        return Progress::Running;
-    }
-    write_slot(words, marks, A0, Value::Concrete(program_break));
-    Progress::Running
+    Ok(())
 }
 
-#[tactic(auto, unfolding(crate::specs::Calls::read_to, reading::specs::Reading::onwards))]
-fn read_to(words: &mut [u64], marks: &mut [u8], to: Transfer, tape: &[u64], used: usize) -> Moved
-    requires shape { Shape words.old marks.old }
-    requires in_memory { InMemory (memory_in marks.old) to }
-    ensures { reached words.new marks.new result ≡ read_to to tape.now used (row words.old marks.old) }
+#[tactic(auto, unfolding(crate::specs::Calls::read, crate::specs::Calls::read_to, reading::specs::Reading::onwards))]
+fn execute_read(row: &mut RowMut, tape: &[u64], used: &mut usize) -> Result<(), Outcome>
+    ensures row_after { reached (lent row.new) used.new result ≡ read_of tape.now used.old (lent row.old) }
+    ensures same_slices { SameSlices row.old row.new }
 {
-    match to {
-        Transfer::Buffer { buffer, size } => {
-            let moved = read_bytes(words, marks, tape, size, (buffer / 8) as usize, used);
-            let at = moved.used;
-            let progress = moved.progress;
-            match progress {
-                Progress::Running => {
-                    write_slot(words, marks, A0, Value::Concrete(size));
-                    Moved {
-                        progress: Progress::Running,
-                        used: at,
-                    }
-                }
-                Progress::Ended(outcome) => Moved {
-                    progress: Progress::Ended(outcome),
-                    used: at,
-                },
-            }
-        }
-        Transfer::Refused(outcome) => Moved {
-            progress: Progress::Ended(outcome),
-            used,
-        },
-    }
+    let reasons = Reasons {
+        file: NotSupportedReason::ReadOtherThanStdin,
+        buffer: NotSupportedReason::ReadUninitializedBuffer,
+        size: NotSupportedReason::ReadUninitializedSize,
+    };
+    let buffer = transfer_of(row.view(), STDIN, reasons)?;
+    read_bytes(row, tape, buffer.size, (buffer.address / 8) as usize, used)?;
+    row.write_slot(A0, Value::Concrete(buffer.size));
+    Ok(())
 }
 
-#[tactic(auto, unfolding(crate::specs::Calls::read))]
-fn execute_read(words: &mut [u64], marks: &mut [u8], tape: &[u64], used: usize) -> Moved
-    requires { Shape words.old marks.old }
-    ensures { reached words.new marks.new result ≡ read_of tape.now used (row words.old marks.old) }
+fn all_concrete(row: RowRef, n: usize, m: usize) -> bool
+    requires { m + n ≤ memory_words (seen row) }
+    ensures { result ≡ all_concrete n m (seen row.entry) }
 {
-    let to = transfer_of(
-        words,
-        marks,
-        STDIN,
-        Reasons {
-            file: NotSupportedReason::ReadOtherThanStdin,
-            buffer: NotSupportedReason::ReadUninitializedBuffer,
-            size: NotSupportedReason::ReadUninitializedSize,
-        },
-    );
-    read_to(words, marks, to, tape, used)
-}
-
-fn all_concrete(words: &[u64], marks: &[u8], n: usize, m: usize) -> bool
-    requires shape { Shape words.now marks.now }
-    requires n_bound { m + n ≤ memory_in marks.now }
-    ensures { result ≡ all_concrete n m (row words.now marks.now) }
-{
-    let mut k = 0;
-    while k < n {
-        match read_memory(words, marks, m + k) {
+    for k in 0..n {
+        match row.read_memory(m + k) {
             Value::Concrete(_) => {}
-            Value::Uninitialized => {
-                return false;
-            }
+            Value::Uninitialized => return false,
         }
-        k += 1;
     }
     true
 }
 
-#[tactic(auto, unfolding(crate::specs::Calls::write_from))]
-fn write_from(words: &[u64], marks: &[u8], from: Transfer) -> Step
-    requires shape { Shape words.now marks.now }
-    requires in_memory { InMemory (memory_in marks.now) from }
-    ensures { result ≡ write_from from (row words.now marks.now) }
+#[tactic(auto, unfolding(crate::specs::Calls::write, crate::specs::Calls::write_from))]
+fn execute_write(row: RowRef) -> Step
+    ensures { result ≡ write_of (seen row.entry) }
 {
-    match from {
-        Transfer::Buffer { buffer, size } => {
-            let n = ((size + buffer % 8 + 7) / 8) as usize;
-            if all_concrete(words, marks, n, (buffer / 8) as usize) {
-                Step::Write { buffer, size }
-            } else {
-                Step::Ended(Outcome::Found(Bug::AccessToUninitializedMemory(
-                    UninitializedMemoryAccessReason::ReadUninitializedMemoryAddress,
-                )))
-            }
+    let reasons = Reasons {
+        file: NotSupportedReason::WriteOtherThanStdout,
+        buffer: NotSupportedReason::WriteUninitializedBuffer,
+        size: NotSupportedReason::WriteUninitializedSize,
+    };
+    let buffer = match transfer_of(row, STDOUT, reasons) {
+        Ok(buffer) => buffer,
+        Err(outcome) => return Step::Ended(outcome),
+    };
+    let n = ((buffer.size + buffer.address % 8 + 7) / 8) as usize;
+    if all_concrete(row, n, (buffer.address / 8) as usize) {
+        Step::Write {
+            buffer: buffer.address,
+            size: buffer.size,
         }
-        Transfer::Refused(outcome) => Step::Ended(outcome),
+    } else {
+        Step::Ended(Outcome::Found(Bug::AccessToUninitializedMemory(
+            UninitializedMemoryAccessReason::ReadUninitializedMemoryAddress,
+        )))
     }
-}
-
-#[tactic(auto, unfolding(crate::specs::Calls::write))]
-fn execute_write(words: &[u64], marks: &[u8]) -> Step
-    requires { Shape words.now marks.now }
-    ensures { result ≡ write_of (row words.now marks.now) }
-{
-    let from = transfer_of(
-        words,
-        marks,
-        STDOUT,
-        Reasons {
-            file: NotSupportedReason::WriteOtherThanStdout,
-            buffer: NotSupportedReason::WriteUninitializedBuffer,
-            size: NotSupportedReason::WriteUninitializedSize,
-        },
-    );
-    write_from(words, marks, from)
 }
 
 #[tactic(auto, unfolding(crate::specs::Calls::exit))]
@@ -157,13 +99,8 @@ fn execute_exit(code: Value) -> Outcome
     ensures { result ≡ exit_of code }
 {
     match code {
-        Value::Concrete(exit_code) => {
-            if exit_code == 0 {
-                Outcome::Exited
-            } else {
-                Outcome::Found(Bug::ExitCodeGreaterZero(exit_code))
-            }
-        }
+        Value::Concrete(0) => Outcome::Exited,
+        Value::Concrete(exit_code) => Outcome::Found(Bug::ExitCodeGreaterZero(exit_code)),
         Value::Uninitialized => unsupported(NotSupportedReason::ExitUninitializedCode),
     }
 }
@@ -179,68 +116,38 @@ fn id_of(a7: Value) -> SyscallId
 }
 
 #[tactic(auto, unfolding(crate::specs::Calls::call_of))]
-fn execute_call(
-    words: &mut [u64],
-    marks: &mut [u8],
-    id: SyscallId,
-    tape: &[u64],
-    used: usize,
-) -> Stepped
-    requires { Shape words.old marks.old }
-    ensures { called words.new marks.new result ≡ call_of id tape.now used (row words.old marks.old) }
+fn execute_call(row: &mut RowMut, id: SyscallId, tape: &[u64], used: &mut usize) -> Step
+    ensures row_after { step_to result used.new (lent row.new) ≡ call_of id tape.now used.old (lent row.old) }
+    ensures same_slices { SameSlices row.old row.new }
 {
     match id {
         SyscallId::Brk => {
-            let wanted = read_slot(words, marks, A0);
-            let progress = execute_brk(words, marks, wanted);
-            Stepped {
-                step: step_of(progress),
-                used,
-            }
+            let wanted = row.view().read_slot(A0);
+            step_of(execute_brk(row, wanted))
         }
-        SyscallId::Read => {
-            let moved = execute_read(words, marks, tape, used);
-            let at = moved.used;
-            let progress = moved.progress;
-            Stepped {
-                step: step_of(progress),
-                used: at,
-            }
-        }
-        SyscallId::Write => Stepped {
-            step: execute_write(words, marks),
-            used,
-        },
-        SyscallId::Exit => {
-            let code = read_slot(words, marks, A0);
-            Stepped {
-                step: Step::Ended(execute_exit(code)),
-                used,
-            }
-        }
-        SyscallId::Unknown => Stepped {
-            step: Step::Ended(unsupported(NotSupportedReason::UnknownSystemCall)),
-            used,
-        },
+        SyscallId::Read => step_of(execute_read(row, tape, used)),
+        SyscallId::Write => execute_write(row.view()),
+        SyscallId::Exit => Step::Ended(execute_exit(row.view().read_slot(A0))),
+        SyscallId::Unknown => Step::Ended(unsupported(NotSupportedReason::UnknownSystemCall)),
     }
 }
 
 // The call that a7 names; pc moves on even where it errs.
 #[tactic(auto, unfolding(crate::specs::Calls::system))]
-pub fn execute_ecall(words: &mut [u64], marks: &mut [u8], tape: &[u64], used: usize) -> Stepped
-    requires { Shape words.old marks.old }
-    ensures { called words.new marks.new result ≡ system_of tape.now used (row words.old marks.old) }
+pub fn execute_ecall(row: &mut RowMut, tape: &[u64], used: &mut usize) -> Step
+    ensures row_after { step_to result used.new (lent row.new) ≡ system_of tape.now used.old (lent row.old) }
+    ensures same_slices { SameSlices row.old row.new }
 {
-    let id = id_of(read_slot(words, marks, A7));
-    let stepped = execute_call(words, marks, id, tape, used);
-    words[PC] = wrapping_add_u64(words[PC], INSTRUCTION_SIZE);
-    stepped
+    let id = id_of(row.view().read_slot(A7));
+    let step = execute_call(row, id, tape, used);
+    row.words[PC] = row.words[PC].wrapping_add(INSTRUCTION_SIZE);
+    step
 }
 
 // Ends a write call that a step handed out.
-pub fn complete_write(words: &mut [u64], marks: &mut [u8], size: u64)
-    requires { Shape words.old marks.old }
-    ensures { row words.new marks.new ≡ completed size (row words.old marks.old) }
+pub fn complete_write(row: &mut RowMut, size: u64)
+    ensures row_after { lent row.new ≡ completed size (lent row.old) }
+    ensures same_slices { SameSlices row.old row.new }
 {
-    write_slot(words, marks, A0, Value::Concrete(size));
+    row.write_slot(A0, Value::Concrete(size));
 }

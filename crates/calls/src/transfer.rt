@@ -1,12 +1,14 @@
 // The buffer of a read or write call, checked before any byte of it is touched.
 ghost use Rattle.std.specs.Prelude.{◌≡◌, ◌^◌, ◌<◌};
-ghost use Rattle.rows.specs.Rows.{row, Shape};
+ghost use Rattle.rows.specs.Rows.{memory_words};
+ghost use Rattle.rows.specs.Lent.{seen};
 ghost use Rattle.calls.specs.Calls.{valid_range, buffer_and_size, is_file, transfer_of};
+ghost use Rattle.calls.specs.InMemory.{InMemory};
 
 use answers::bug::Bug;
 use answers::error::{ExecutorError, NotSupportedReason};
 use answers::outcome::Outcome;
-use rows::row::{REGISTERS, read_slot};
+use rows::row::RowRef;
 use values::Value;
 
 // Registers by their names in the calling convention.
@@ -18,12 +20,11 @@ const A2: usize = 12;
 
 pub(crate) const A7: usize = 17;
 
-// What comes of the checks.
+// Address and size in bytes, all of it in memory.
 #[derive(Clone, Copy)]
-pub enum Transfer {
-    // address and size in bytes, all of it in memory
-    Buffer { buffer: u64, size: u64 },
-    Refused(Outcome),
+pub struct Buffer {
+    pub address: u64,
+    pub size: u64,
 }
 
 // Why a call on another file, without a buffer or without a size is not supported.
@@ -40,45 +41,33 @@ pub(crate) fn unsupported(reason: NotSupportedReason) -> Outcome
     Outcome::Failed(ExecutorError::NotSupported(reason))
 }
 
-fn out_of_range() -> Transfer
-    ensures { result ≡ Transfer.Refused (Outcome.Found Bug.AccessToOutOfRangeAddress) }
-{
-    Transfer::Refused(Outcome::Found(Bug::AccessToOutOfRangeAddress))
-}
-
 // A buffer whose end passes 2^64 - 1 is out of range, where the Rust panics.
 #[tactic(auto, unfolding(crate::specs::Calls::valid_range))]
-fn check_for_valid_memory_range(buffer: u64, size: u64, memory: u64) -> Transfer
+fn check_for_valid_memory_range(address: u64, size: u64, memory: u64) -> Result<Buffer, Outcome>
     requires { memory < 2 ^ 60 }
-    ensures { result ≡ valid_range buffer size memory }
+    ensures value { result ≡ valid_range address size memory }
+    ensures in_memory { InMemory memory result }
 {
-    if memory <= buffer / 8 {
-        return out_of_range();
+    if memory <= address / 8 || u64::MAX - address < size || memory <= (address + size) / 8 {
+        return Err(Outcome::Found(Bug::AccessToOutOfRangeAddress));
     }
-    if u64::MAX - buffer < size {
-        return out_of_range();
-    }
-    if memory <= (buffer + size) / 8 {
-        return out_of_range();
-    }
-    Transfer::Buffer { buffer, size }
+    Ok(Buffer { address, size })
 }
 
 // The buffer that a1 and a2 name.
 #[tactic(auto, unfolding(crate::specs::Calls::buffer_and_size))]
-fn buffer_and_size(reasons: Reasons, a1: Value, a2: Value, memory: u64) -> Transfer
+fn buffer_and_size(reasons: Reasons, a1: Value, a2: Value, memory: u64) -> Result<Buffer, Outcome>
     requires { memory < 2 ^ 60 }
-    ensures { result ≡ buffer_and_size reasons a1 a2 memory }
+    ensures value { result ≡ buffer_and_size reasons a1 a2 memory }
+    ensures in_memory { InMemory memory result }
 {
-    let Value::Concrete(buffer) = a1 else {
-        let reason = reasons.buffer;
-        return Transfer::Refused(unsupported(reason));
+    let Value::Concrete(address) = a1 else {
+        return Err(unsupported(reasons.buffer));
     };
     let Value::Concrete(size) = a2 else {
-        let reason = reasons.size;
-        return Transfer::Refused(unsupported(reason));
+        return Err(unsupported(reasons.size));
     };
-    check_for_valid_memory_range(buffer, size, memory)
+    check_for_valid_memory_range(address, size, memory)
 }
 
 fn is_file(fd: u64, a0: Value) -> bool
@@ -92,16 +81,17 @@ fn is_file(fd: u64, a0: Value) -> bool
 
 // The buffer that a0, a1 and a2 name for a call on the file fd.
 #[tactic(auto, unfolding(crate::specs::Calls::transfer_of))]
-pub(crate) fn transfer_of(words: &[u64], marks: &[u8], fd: u64, reasons: Reasons) -> Transfer
-    requires { Shape words.now marks.now }
-    ensures { result ≡ transfer_of fd reasons (row words.now marks.now) }
+pub(crate) fn transfer_of(row: RowRef, fd: u64, reasons: Reasons) -> Result<Buffer, Outcome>
+    ensures value { result ≡ transfer_of fd reasons (seen row.entry) }
+    ensures in_memory { InMemory (memory_words (seen row.entry)) result }
 {
-    if is_file(fd, read_slot(words, marks, A0)) {
-        let a1 = read_slot(words, marks, A1);
-        let a2 = read_slot(words, marks, A2);
-        buffer_and_size(reasons, a1, a2, (marks.len() - REGISTERS) as u64)
-    } else {
-        let reason = reasons.file;
-        Transfer::Refused(unsupported(reason))
+    if !is_file(fd, row.read_slot(A0)) {
+        return Err(unsupported(reasons.file));
     }
+    buffer_and_size(
+        reasons,
+        row.read_slot(A1),
+        row.read_slot(A2),
+        row.memory_words() as u64,
+    )
 }

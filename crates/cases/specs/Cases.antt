@@ -1,5 +1,5 @@
 -- Document 01's proved cases, P1 to P12, and its whole case: one table of what the definitions come to. Rows have W 128 and L 4.
-use Rattle.std.specs.Prelude.{List, [], ◌∷◌, ◌++◌, ◌≡◌, ℕ, zero, suc, ◌-◌, ◌/◌, ◌%◌, ◌^◌}
+use Rattle.std.specs.Prelude.{List, Ok, [], ◌∷◌, ◌++◌, ◌≡◌, ℕ, zero, suc, ◌-◌, ◌/◌, ◌%◌, ◌^◌}
 use Rattle.std.specs.Float.{binary64}
 use Rattle.std.specs.Float.Ieee.{of_bits}
 use Rattle.riscu.specs.Decoding.{decoded}
@@ -15,7 +15,6 @@ use Rattle.calls.specs.declared.step.Step.TheVariants as step
 use Rattle.loader.specs.Loading.{segment, program, new_executor}
 use Rattle.machine.specs.Steps.{fetched, executed, settled_call}
 use Rattle.machine.specs.Runs.{Finished, run_of, stops}
-use Rattle.machine.specs.declared.step.Fetched.TheVariants.{Word}
 use Rattle.means.specs.Means.{Fraction, exact_mean}
 use Rattle.means.specs.declared.MeanType.TheVariants.{Arithmetic, Harmonic}
 use Rattle.counting.specs.Cells.{cell_of}
@@ -164,7 +163,7 @@ pub record ProvedCases : Type 0 where
   pub p9 : (exact_mean Harmonic (1 ∷ 2 ∷ []) ≡ fraction 4 3) × (exact_mean Arithmetic (1 ∷ 2 ∷ []) ≡ fraction 3 2)
   -- jalr to 13, whose lowest bit is kept; the high half of word 1 is fetched there
   pub p10 : after_jalr jump_row ≡ passed 0 (set_pc 13 jump_row)
-  pub p10_fetches : fetched (after_jalr jump_row).row ≡ Word 0x11111111
+  pub p10_fetches : fetched (after_jalr jump_row).row ≡ Ok 0x11111111
   -- step 0 on a new executor: its row stays
   pub p11 : after_nothing ≡ stops Running 8 0 new_row
   pub p11_number : progress_number after_nothing.ran.progress ≡ 22

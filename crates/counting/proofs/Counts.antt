@@ -3,7 +3,7 @@ use Rattle.std.proofs.Common.{◌≡◌, ap, ◌∙◌, Bool, true, false, List,
 use Rattle.rows.specs.Rows.{Row, row}
 use Rattle.store.specs.Store.{Fit, nth_row, rows_of}
 use Rattle.store.specs.declared.layout.Layout.{Layout}
-use Rattle.store.proofs.Rows.{length_rows, lent, lent_row}
+use Rattle.store.proofs.Rows.{length_rows}
 use Rattle.counting.specs.Cells.{addresses_of}
 use Rattle.counting.specs.Counters.{occurrences, counter_in, taking}
 
@@ -25,11 +25,11 @@ module _ {s : Layout} {words marks : List ℕ} (f : Fit s words marks) (flags : 
   at_row t e = opened r flags (rows_of s words marks) a t (omega arith) (omega (arith, length_rows s.rows s.words s.marks words marks)) e
 
   pub count_taken : (k : ℕ) → m ≡ n + k → get_or flags r false ≡ true → n + count_from r flags (rows_of s words marks) a ≡ total
-      → k ≡ occurrences a (addresses_of (row (lent s.words r words) (lent s.marks r marks)))
+      → (x : Row) → x ≡ nth_row (rows_of s words marks) r → k ≡ occurrences a (addresses_of x)
       → m + count_from (r + 1) flags (rows_of s words marks) a ≡ total
   unfolding counter_in taking
-  count_taken k g e i q =
-      let own : k ≡ occurrences a (addresses_of (nth_row (rows_of s words marks) r)) = q ∙ ap (λ (z : Row). occurrences a (addresses_of z)) (lent_row f r h) in
+  count_taken k g e i x o q =
+      let own : k ≡ occurrences a (addresses_of (nth_row (rows_of s words marks) r)) = q ∙ ap (λ (z : Row). occurrences a (addresses_of z)) o in
       let all : count_from r flags (rows_of s words marks) a
       ≡ occurrences a (addresses_of (nth_row (rows_of s words marks) r)) + count_from (r + 1) flags (rows_of s words marks) a = at_row true e in
       omega arith

@@ -1,12 +1,12 @@
 // The places of a row, the cells of their bytes, and how often one row has a byte value in a cell.
 ghost use Rattle.std.specs.Prelude.{◌≡◌, ◌≤◌, ◌<◌, length};
-ghost use Rattle.rows.specs.Rows.{row, Shape};
+ghost use Rattle.rows.specs.Lent.{seen};
 ghost use Rattle.store.specs.Store.{most_marks};
 ghost use Rattle.counting.specs.Cells.{place_at, base_of, byte_of, address_of, addresses_of};
 ghost use Rattle.counting.specs.Counters.{occurrences};
 ghost use Rattle.counting.specs.Probes.{place_of, probe};
 
-use rows::row::{PC, REGISTERS, read_slot};
+use rows::row::{PC, REGISTERS, RowRef};
 use values::Value;
 
 // The cells of the lowest bytes: pc is in cell 0, register r in FIRST_REGISTER_CELL + r, memory word m in FIRST_MEMORY_CELL + m.
@@ -22,15 +22,14 @@ pub const BYTES: u32 = 8;
 
 // The value at a place: pc is place 0, slot n is place 1 + n.
 #[tactic(auto, unfolding(crate::specs::Cells::place_at))]
-pub fn place_at(words: &[u64], marks: &[u8], place: usize) -> Value
-    requires shape { Shape words.now marks.now }
-    requires within { place ≤ length marks.now }
-    ensures { result ≡ place_at (row words.now marks.now) place }
+pub fn place_at(row: RowRef, place: usize) -> Value
+    requires { place ≤ length row.marks.now }
+    ensures { result ≡ place_at (seen row.entry) place }
 {
     if place == 0 {
-        Value::Concrete(words[PC])
+        Value::Concrete(row.words[PC])
     } else {
-        read_slot(words, marks, place - 1)
+        row.read_slot(place - 1)
     }
 }
 
@@ -83,10 +82,9 @@ fn place_of(base: usize) -> Option<usize>
 
 // Whether a row has a byte value in a cell as byte b of a word. At most one word has its byte b in that cell.
 #[tactic(auto, unfolding(crate::specs::Probes::probe, crate::specs::Probes::matches_at, crate::specs::Probes::matches))]
-fn hit(words: &[u64], marks: &[u8], cell: usize, byte: u64, b: u32) -> bool
-    requires shape { Shape words.now marks.now }
-    requires of_word { b < 8 }
-    ensures { result ≡ probe (row words.now marks.now) cell byte b }
+fn hit(row: RowRef, cell: usize, byte: u64, b: u32) -> bool
+    requires { b < 8 }
+    ensures { result ≡ probe (seen row.entry) cell byte b }
 {
     let up = BYTE_STRIDE * (b as usize);
     if cell < up {
@@ -95,25 +93,24 @@ fn hit(words: &[u64], marks: &[u8], cell: usize, byte: u64, b: u32) -> bool
     let Some(place) = place_of(cell - up) else {
         return false;
     };
-    if marks.len() < place {
+    if row.marks.len() < place {
         return false;
     }
-    match place_at(words, marks, place) {
+    match place_at(row, place) {
         Value::Concrete(x) => byte_of(x, b) == byte,
         Value::Uninitialized => false,
     }
 }
 
 // How often a row has a byte value in a cell.
-pub(crate) fn hits(words: &[u64], marks: &[u8], cell: usize, byte: u64) -> u64
-    requires shape { Shape words.now marks.now }
-    requires a_byte { byte < 256 }
-    ensures value { result ≡ occurrences (address_of cell byte) (addresses_of (row words.now marks.now)) }
+pub(crate) fn hits(row: RowRef, cell: usize, byte: u64) -> u64
+    requires { byte < 256 }
+    ensures value { result ≡ occurrences (address_of cell byte) (addresses_of (seen row.entry)) }
     ensures at_most_eight { result ≤ 8 }
 {
     let mut n = 0;
     for b in 0..BYTES {
-        if hit(words, marks, cell, byte, b) {
+        if hit(row, cell, byte, b) {
             n += 1;
         }
     }

@@ -6,6 +6,7 @@ ghost use Rattle.counting.specs.Counters.{highest_counter, counter_in, taking};
 
 use crate::cells::hits;
 use store::layout::Layout;
+use store::row::row_in;
 
 // How often the rows whose flag is set have a byte value in a cell.
 pub fn counter(
@@ -25,14 +26,7 @@ pub fn counter(
     let mut n = 0;
     for r in 0..store.rows {
         if flags[r] {
-            let word = r * store.words;
-            let mark = r * store.marks;
-            n += hits(
-                &words[word..word + store.words],
-                &marks[mark..mark + store.marks],
-                cell,
-                byte,
-            );
+            n += hits(row_in(words, marks, store, r), cell, byte);
         }
     }
     n

@@ -1,6 +1,5 @@
 -- Two rows that an instruction cannot tell apart, since it reads the same of both, and that its writes keep so.
 -- A law of all instructions is such a relation: the two rows differ in what no instruction reads, or are one row with what all writes keep.
-use mathlib.Core.Bool.{Bool, true, false, cond}
 use mathlib.Core.Path.{◌≡◌, ap, ap₂}
 use Prim.Native.Nat.{ℕ, ◌+◌, ◌<◌}
 use lib.ListN.{length, drop}

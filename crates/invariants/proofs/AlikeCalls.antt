@@ -12,10 +12,10 @@ use Rattle.calls.specs.declared.number.SyscallId.TheVariants as call
 use Rattle.values.specs.declared.Value.{Value}
 use Rattle.values.specs.declared.Value.TheVariants.{Concrete, Uninitialized}
 use Rattle.rows.specs.Rows.{Row, break_of, memory_words, slot_at}
-use Rattle.reading.specs.declared.Moved.{Moved}
-use Rattle.reading.specs.Reading.{running}
-use Rattle.calls.specs.declared.transfer.Transfer.{Transfer}
-use Rattle.calls.specs.declared.transfer.Transfer.TheVariants.{Buffer, Refused}
+use Rattle.reading.specs.Reading.{Moved, running}
+use Rattle.std.specs.Prelude.{Result, Ok, Err}
+use Rattle.answers.specs.declared.outcome.Outcome.{Outcome}
+use Rattle.calls.specs.declared.transfer.Buffer.{Buffer}
 use Rattle.calls.specs.declared.transfer.Reasons.{Reasons}
 use Rattle.calls.specs.InMemory.{InMemory}
 use Rattle.calls.specs.Calls.{Called, a0, a1, a2, a7, returned, brk, transfer_of, read_reasons, write_reasons, read_to, read, is_concrete, all_concrete, write_from, write, step_of, call_of, id_of, system}
@@ -32,10 +32,10 @@ unfolding all_concrete
 same_concrete e zero m = refl
 same_concrete e (suc n) m = ap₂ (λ (v : Value) (b : Bool). cond (is_concrete v) b false) (same_slot e (32 + m)) (same_concrete e n (m + 1))
 
-same_write_from : {r s : Row} → Same r s → (to : Transfer) → write_from to r ≡ write_from to s
+same_write_from : {r s : Row} → Same r s → (to : Result Buffer Outcome) → write_from to r ≡ write_from to s
 unfolding write_from
-same_write_from e (Buffer buffer size) = rw (same_concrete e ((size + buffer % 8 + 7) / 8) (buffer / 8))
-same_write_from e (Refused o) = refl
+same_write_from e (Ok b) = rw (same_concrete e ((b.size + b.address % 8 + 7) / 8) (b.address / 8))
+same_write_from e (Err o) = refl
 
 same_write : {r s : Row} → Same r s → write r ≡ write s
 unfolding write
@@ -62,12 +62,12 @@ module _ (w : ℕ) (R : Row → Row → Type 0) (alike : Alike w R) where
   brk_alike Uninitialized r s h = h
 
   -- the words of a buffer are in memory
-  read_to_alike : (to : Transfer) (tape : List ℕ) (used : ℕ) (r s : Row) → InMemory w to → R r s → Both R (read_to to tape used r) (read_to to tape used s)
+  read_to_alike : (to : Result Buffer Outcome) (tape : List ℕ) (used : ℕ) (r s : Row) → InMemory w to → R r s → Both R (read_to to tape used r) (read_to to tape used s)
   unfolding read_to
-  read_to_alike (Buffer buffer size) tape used r s k h =
-      then_alike w R alike (λ u q. running u (returned size q)) (λ u p q i. record { rows = answer_alike size i; moved = refl })
-      (bytes_alike w R alike size tape (buffer / 8) used r s (omega arith) h)
-  read_to_alike (Refused o) tape used r s k h = record { rows = h; moved = refl }
+  read_to_alike (Ok b) tape used r s k h =
+      then_alike w R alike (λ u q. running u (returned b.size q)) (λ u p q i. record { rows = answer_alike b.size i; moved = refl })
+      (bytes_alike w R alike b.size tape (b.address / 8) used r s (omega arith) h)
+  read_to_alike (Err o) tape used r s k h = record { rows = h; moved = refl }
 
   read_alike : (tape : List ℕ) (used : ℕ) (r s : Row) → R r s → Both R (read tape used r) (read tape used s)
   unfolding read

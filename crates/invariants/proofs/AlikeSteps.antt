@@ -6,8 +6,8 @@ use native.Mathlib.Omega.{arith}
 use Rattle.riscu.specs.Decoding.{decoded}
 use Rattle.riscu.specs.Registers.{Registers, RegistersIn}
 use Rattle.riscu.specs.declared.instruction.Instruction.{Instruction}
-use Rattle.riscu.specs.declared.instruction.Decoded.{Decoded}
-use Rattle.riscu.specs.declared.instruction.Decoded.TheVariants.{Valid, Invalid}
+use Rattle.std.specs.Prelude.{Option, Some, None, Result, Ok, Err}
+use Rattle.answers.specs.declared.error.ExecutorError.{ExecutorError}
 use Rattle.riscu.proofs.Registers.{decoded_registers}
 use Rattle.effects.specs.Reach.{InReach}
 use Rattle.effects.specs.declared.effect.Effect.{Effect}
@@ -20,8 +20,6 @@ use Rattle.execution.specs.declared.Next.TheVariants as next
 use Rattle.calls.specs.declared.step.Step.{Step}
 use Rattle.calls.specs.declared.step.Step.TheVariants as step
 use Rattle.machine.specs.Steps.{fetched, followed, executed, interpreted, deeper, stepped, settled, advanced}
-use Rattle.machine.specs.declared.step.Fetched.{Fetched}
-use Rattle.machine.specs.declared.step.Fetched.TheVariants.{Word, Refused}
 use Rattle.invariants.proofs.Alike.{Same, Alike, same_slots, same_slot}
 use Rattle.invariants.proofs.AlikeReading.{Both}
 use Rattle.invariants.proofs.AlikeCalls.{BothCalled, answer_alike, system_alike}
@@ -56,18 +54,18 @@ module _ (w : ℕ) (R : Row → Row → Type 0) (alike : Alike w R) where
   followed_alike next.Call tape used r s h = system_alike w R alike tape used r s h
   followed_alike (next.End o) tape used r s h = record { rows = h; stepped = refl }
 
-  executed_alike : (d : Decoded) (tape : List ℕ) (used : ℕ) (r s : Row) → RegistersIn d → R r s → BothCalled R (executed d tape used r) (executed d tape used s)
+  executed_alike : (d : Option Instruction) (tape : List ℕ) (used : ℕ) (r s : Row) → RegistersIn d → R r s → BothCalled R (executed d tape used r) (executed d tape used s)
   unfolding executed
-  executed_alike (Valid i) tape used r s k h =
+  executed_alike (Some i) tape used r s k h =
       rw (← same_effect (alike.same h) i)
       (followed_alike (next_of (effect_in i r)) tape used _ _
       (applied_alike (effect_in i r) r s (rw (alike.memory h) at (effect_reach i r k)) h))
-  executed_alike Invalid tape used r s k h = record { rows = h; stepped = refl }
+  executed_alike None tape used r s k h = record { rows = h; stepped = refl }
 
-  interpreted_alike : (x : Fetched) (tape : List ℕ) (used : ℕ) (r s : Row) → R r s → BothCalled R (interpreted x tape used r) (interpreted x tape used s)
+  interpreted_alike : (x : Result ℕ ExecutorError) (tape : List ℕ) (used : ℕ) (r s : Row) → R r s → BothCalled R (interpreted x tape used r) (interpreted x tape used s)
   unfolding interpreted
-  interpreted_alike (Word x) tape used r s h = executed_alike (decoded x) tape used r s (decoded_registers x) h
-  interpreted_alike (Refused e) tape used r s h = record { rows = h; stepped = refl }
+  interpreted_alike (Ok x) tape used r s h = executed_alike (decoded x) tape used r s (decoded_registers x) h
+  interpreted_alike (Err e) tape used r s h = record { rows = h; stepped = refl }
 
   deeper_alike : (r s : Row) → R r s → R (deeper r) (deeper s)
   deeper_alike r s h = rw (← (alike.same h).depth) (alike.to_header 2 (depth_of r + 1) (omega arith) h)

@@ -5,8 +5,9 @@ use mathlib.Core.Path.{◌≡◌, sym, subst}
 use Prim.Native.Nat.{ℕ, zero, suc, ◌+◌, ◌-◌, ◌/◌, ◌<◌}
 use native.Mathlib.Omega.{arith}
 use Rattle.riscu.specs.Decoding.{decoded}
-use Rattle.riscu.specs.declared.instruction.Decoded.{Decoded}
-use Rattle.riscu.specs.declared.instruction.Decoded.TheVariants.{Valid, Invalid}
+use Rattle.riscu.specs.declared.instruction.Instruction.{Instruction}
+use Rattle.std.specs.Prelude.{Option, Some, None, Result, Ok, Err}
+use Rattle.answers.specs.declared.error.ExecutorError.{ExecutorError}
 use Rattle.answers.specs.declared.outcome.Outcome.{Outcome}
 use Rattle.answers.specs.declared.outcome.Progress.{Progress}
 use Rattle.answers.specs.declared.outcome.Progress.TheVariants as progress
@@ -22,12 +23,9 @@ use Rattle.calls.specs.declared.number.SyscallId.{SyscallId}
 use Rattle.calls.specs.declared.number.SyscallId.TheVariants as call
 use Rattle.calls.specs.declared.step.Step.{Step}
 use Rattle.calls.specs.declared.step.Step.TheVariants.{Running, Write, Ended}
-use Rattle.calls.specs.declared.transfer.Transfer.{Transfer}
-use Rattle.calls.specs.declared.transfer.Transfer.TheVariants.{Buffer, Refused}
+use Rattle.calls.specs.declared.transfer.Buffer.{Buffer}
 use Rattle.calls.proofs.Ranges.{transfer_in_memory}
 use Rattle.machine.specs.Steps.{fetched, followed, executed, interpreted, deeper, stepped}
-use Rattle.machine.specs.declared.step.Fetched.{Fetched}
-use Rattle.machine.specs.declared.step.Fetched.TheVariants as fetch
 use Rattle.machine.specs.Pauses.{Halted, unless_running, paused_for, paused_of}
 use Rattle.machine.specs.HandedOut.{HandedOut}
 use Rattle.machine.proofs.Kept.{stepped_marks}
@@ -37,10 +35,10 @@ checked : (w buffer size : ℕ) (o : Outcome) → (buffer + size) / 8 < w → (c
 checked w buffer size o h true = omega arith
 checked w buffer size o h false = tt
 
-from_transfer : (w : ℕ) (t : Transfer) (r : Row) → InMemory w t → HandedOut w (write_from t r)
+from_transfer : (w : ℕ) (t : Result Buffer Outcome) (r : Row) → InMemory w t → HandedOut w (write_from t r)
 unfolding write_from
-from_transfer w (Buffer buffer size) r h = checked w buffer size _ h (all_concrete _ (buffer / 8) r)
-from_transfer w (Refused o) r h = tt
+from_transfer w (Ok b) r h = checked w b.address b.size _ h (all_concrete _ (b.address / 8) r)
+from_transfer w (Err o) r h = tt
 
 by_progress : (w : ℕ) (p : Progress) → HandedOut w (step_of p)
 by_progress w progress.Running = tt
@@ -65,18 +63,18 @@ by_next next.Instruction tape used r = tt
 by_next next.Call tape used r = by_system tape used r
 by_next (next.End o) tape used r = tt
 
-by_execution : (d : Decoded) (tape : List ℕ) (used : ℕ) (r : Row) → HandedOut (memory_words r) (executed d tape used r).stepped.step
+by_execution : (d : Option Instruction) (tape : List ℕ) (used : ℕ) (r : Row) → HandedOut (memory_words r) (executed d tape used r).stepped.step
 unfolding executed
-by_execution (Valid i) tape used r =
+by_execution (Some i) tape used r =
     let e = effect_in i r in
     subst (λ (marks : ℕ). HandedOut (marks - register_count) (followed (next_of e) tape used (applied e r)).stepped.step) (applied_marks e r)
     (by_next (next_of e) tape used (applied e r))
-by_execution Invalid tape used r = tt
+by_execution None tape used r = tt
 
-by_fetch : (f : Fetched) (tape : List ℕ) (used : ℕ) (r : Row) → HandedOut (memory_words r) (interpreted f tape used r).stepped.step
+by_fetch : (f : Result ℕ ExecutorError) (tape : List ℕ) (used : ℕ) (r : Row) → HandedOut (memory_words r) (interpreted f tape used r).stepped.step
 unfolding interpreted
-by_fetch (fetch.Word x) tape used r = by_execution (decoded x) tape used r
-by_fetch (fetch.Refused e) tape used r = tt
+by_fetch (Ok x) tape used r = by_execution (decoded x) tape used r
+by_fetch (Err e) tape used r = tt
 
 by_step : (tape : List ℕ) (used : ℕ) (r : Row) → HandedOut (memory_words r) (stepped tape used r).stepped.step
 unfolding stepped

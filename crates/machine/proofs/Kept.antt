@@ -7,8 +7,9 @@ use native.Mathlib.Omega.{arith}
 use lib.ListN.{length, length-set}
 use lib.Seq.{get_or-set_same, get_or-set_other}
 use Rattle.riscu.specs.Decoding.{decoded}
-use Rattle.riscu.specs.declared.instruction.Decoded.{Decoded}
-use Rattle.riscu.specs.declared.instruction.Decoded.TheVariants.{Valid, Invalid}
+use Rattle.riscu.specs.declared.instruction.Instruction.{Instruction}
+use Rattle.std.specs.Prelude.{Option, Some, None, Result, Ok, Err}
+use Rattle.answers.specs.declared.error.ExecutorError.{ExecutorError}
 use Rattle.effects.specs.declared.effect.Effect.{Effect}
 use Rattle.rows.specs.Rows.{Row, depth_of, limit_of}
 use Rattle.execution.specs.Execution.{effect_in, applied, next_of}
@@ -21,8 +22,6 @@ use Rattle.calls.specs.declared.step.Step.TheVariants as step
 use Rattle.calls.proofs.Kept.{system_words, system_marks, system_depth, system_limit, completed_words, completed_marks, completed_depth, completed_limit}
 use Rattle.machine.specs.Steps.{fetched, followed, executed, interpreted, deeper, stepped, settled, advanced}
 use Rattle.machine.specs.Handing.{handed, stepped_by}
-use Rattle.machine.specs.declared.step.Fetched.{Fetched}
-use Rattle.machine.specs.declared.step.Fetched.TheVariants.{Word, Refused}
 
 -- what effects and calls keep of a row, an instruction keeps once its depth is counted, up to the completion of a write call
 module _ (f : Row → ℕ) (by_effect : (e : Effect) (r : Row) → f (applied e r) ≡ f r) (by_call : (tape : List ℕ) (used : ℕ) (r : Row) → f (system tape used r).row ≡ f r) where
@@ -32,16 +31,16 @@ module _ (f : Row → ℕ) (by_effect : (e : Effect) (r : Row) → f (applied e 
   followed_kept next.Call tape used r = by_call tape used r
   followed_kept (next.End o) tape used r = refl
 
-  executed_kept : (d : Decoded) (tape : List ℕ) (used : ℕ) (r : Row) → f (executed d tape used r).row ≡ f r
+  executed_kept : (d : Option Instruction) (tape : List ℕ) (used : ℕ) (r : Row) → f (executed d tape used r).row ≡ f r
   unfolding executed
-  executed_kept (Valid i) tape used r =
+  executed_kept (Some i) tape used r =
       followed_kept (next_of (effect_in i r)) tape used (applied (effect_in i r) r) ∙ by_effect (effect_in i r) r
-  executed_kept Invalid tape used r = refl
+  executed_kept None tape used r = refl
 
-  interpreted_kept : (x : Fetched) (tape : List ℕ) (used : ℕ) (r : Row) → f (interpreted x tape used r).row ≡ f r
+  interpreted_kept : (x : Result ℕ ExecutorError) (tape : List ℕ) (used : ℕ) (r : Row) → f (interpreted x tape used r).row ≡ f r
   unfolding interpreted
-  interpreted_kept (Word x) tape used r = executed_kept (decoded x) tape used r
-  interpreted_kept (Refused e) tape used r = refl
+  interpreted_kept (Ok x) tape used r = executed_kept (decoded x) tape used r
+  interpreted_kept (Err e) tape used r = refl
 
   pub stepped_kept : (tape : List ℕ) (used : ℕ) (r : Row) → f (stepped tape used r).row ≡ f (deeper r)
   unfolding stepped

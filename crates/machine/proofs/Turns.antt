@@ -7,17 +7,16 @@ use native.Mathlib.Nat.{sub-eq-zero_of_le}
 use native.Mathlib.Omega.{arith}
 use lib.ListN.{length}
 use Rattle.riscu.specs.Decoding.{decoded}
-use Rattle.riscu.specs.declared.instruction.Decoded.{Decoded}
-use Rattle.riscu.specs.declared.instruction.Decoded.TheVariants.{Invalid}
+use Rattle.riscu.specs.declared.instruction.Instruction.{Instruction}
+use Rattle.std.specs.Prelude.{Option, None, Ok, Err}
 use Rattle.answers.specs.declared.error.ExecutorError.TheVariants.{InvalidInstructionEncoding}
 use Rattle.answers.specs.declared.error.ExecutorError.{ExecutorError}
-use Rattle.answers.specs.declared.outcome.Outcome.{Outcome}
 use Rattle.answers.specs.declared.outcome.Outcome.TheVariants.{Failed}
 use Rattle.rows.specs.Rows.{Row, pc_of, depth_of}
 use Rattle.calls.specs.Calls.{Called, step_to}
+use Rattle.calls.specs.declared.step.Step.{Step}
 use Rattle.calls.specs.declared.step.Step.TheVariants.{Running, Write, Ended}
 use Rattle.machine.specs.Steps.{fetched, deeper, executed, interpreted, stepped}
-use Rattle.machine.specs.declared.step.Fetched.TheVariants.{Word, Refused}
 use Rattle.machine.specs.Pauses.{halts, unless_running}
 use Rattle.machine.specs.Handing.{handed, handed_on, stepped_by, halted_for}
 use Rattle.machine.proofs.Kept.{stepped_by_depth}
@@ -46,27 +45,28 @@ module _ (out : Bool) (limit : ℕ) (tape : List ℕ) (used : ℕ) (r : Row) (x 
       ap (λ (d : ℕ). halted_for out (limit - d) tape x.stepped.used x.row) (ap (λ (y : Called). depth_of y.row) e ∙ stepped_by_depth out tape used r l)
       ∙ sym (before_limit out limit tape used r h ∙ rw (← e, p))
 
-  -- it hands a write call out
-  pub wrote : (buffer size : ℕ) → x.stepped.step ≡ Write buffer size → halts (Write buffer size) (pc_of r) x.stepped.used x.row ≡ halted_for out (limit - depth_of r) tape used r
+  -- it halts
+  pub halted : (x.stepped.step ≡ Running → ⊥) → halts x.stepped.step (pc_of r) x.stepped.used x.row ≡ halted_for out (limit - depth_of r) tape used r
   unfolding unless_running
-  wrote buffer size p = sym (before_limit out limit tape used r h ∙ rw (← e, p))
-
-  -- it ends
-  pub stopped : (o : Outcome) → x.stepped.step ≡ Ended o → halts (Ended o) (pc_of r) x.stepped.used x.row ≡ halted_for out (limit - depth_of r) tape used r
-  unfolding unless_running
-  stopped o p = sym (before_limit out limit tape used r h ∙ rw (← e, p))
+  halted p = sym (before_limit out limit tape used r h ∙ ap (λ (y : Called). unless_running (halted_for out (limit - (depth_of r + 1)) tape) (pc_of r) y.stepped.step y.stepped.used y.row) (sym e) ∙ by_step x.stepped.step p)
+    where
+      by_step : (s : Step) → (s ≡ Running → ⊥) →
+          unless_running (halted_for out (limit - (depth_of r + 1)) tape) (pc_of r) s x.stepped.used x.row ≡ halts s (pc_of r) x.stepped.used x.row
+      by_step Running q = absurd (q refl)
+      by_step (Write buffer size) q = refl
+      by_step (Ended o) q = refl
 
 -- an instruction that was fetched and decoded
-pub by_word : (out : Bool) (tape : List ℕ) (used : ℕ) (r after : Row) (word : ℕ) (d : Decoded) → Word word ≡ fetched (deeper r) → d ≡ decoded word → after ≡ deeper r → handed_on out (executed d tape used after) ≡ stepped_by out tape used r
+pub by_word : (out : Bool) (tape : List ℕ) (used : ℕ) (r after : Row) (word : ℕ) (d : Option Instruction) → Ok word ≡ fetched (deeper r) → d ≡ decoded word → after ≡ deeper r → handed_on out (executed d tape used after) ≡ stepped_by out tape used r
 unfolding stepped_by stepped interpreted
 by_word out tape used r after word d f e a = rw (a, e, ← f)
 
 -- one that could not be decoded
-pub by_invalid : (out : Bool) (tape : List ℕ) (used : ℕ) (r : Row) (word : ℕ) → Word word ≡ fetched (deeper r) → Invalid ≡ decoded word → step_to (Ended (Failed InvalidInstructionEncoding)) used (deeper r) ≡ stepped_by out tape used r
+pub by_invalid : (out : Bool) (tape : List ℕ) (used : ℕ) (r : Row) (word : ℕ) → Ok word ≡ fetched (deeper r) → None ≡ decoded word → step_to (Ended (Failed InvalidInstructionEncoding)) used (deeper r) ≡ stepped_by out tape used r
 unfolding executed handed
-by_invalid out tape used r word f e = by_word out tape used r (deeper r) word Invalid f e refl
+by_invalid out tape used r word f e = by_word out tape used r (deeper r) word None f e refl
 
 -- one that could not be fetched
-pub by_refusal : (out : Bool) (tape : List ℕ) (used : ℕ) (r : Row) (error : ExecutorError) → Refused error ≡ fetched (deeper r) → step_to (Ended (Failed error)) used (deeper r) ≡ stepped_by out tape used r
+pub by_refusal : (out : Bool) (tape : List ℕ) (used : ℕ) (r : Row) (error : ExecutorError) → Err error ≡ fetched (deeper r) → step_to (Ended (Failed error)) used (deeper r) ≡ stepped_by out tape used r
 unfolding stepped_by stepped interpreted handed
 by_refusal out tape used r error f = rw (← f)

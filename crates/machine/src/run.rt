@@ -1,20 +1,17 @@
 // A run of an executor up to a limit of instructions.
 ghost use Rattle.std.specs.Prelude.{◌≡◌, ◌+◌, ◌-◌, ◌<◌, ◌^◌};
-ghost use Rattle.answers.specs.declared.outcome.Outcome.TheVariants.{Failed};
-ghost use Rattle.rows.specs.Rows.{row, Shape, depth_of, limit_of, memory_in};
-ghost use Rattle.known.specs.Table.{Faithful};
+ghost use Rattle.rows.specs.Rows.{row, Shape, depth_of, limit_of, memory_in, memory_words};
+ghost use Rattle.rows.specs.Lent.{lent, SameSlices};
 ghost use Rattle.machine.specs.Runs.{run_of, finished_as};
-ghost use Rattle.machine.specs.Pauses.{halted_as, pause_of, paused_of};
+ghost use Rattle.machine.specs.Pauses.{halted_as, paused_of};
 ghost use Rattle.machine.specs.Handing.{halted_for, progress_of};
 ghost use Rattle.machine.specs.HandedOut.{HandedOut};
 
-use crate::step::{Fetched, advance, fetch_next};
-use answers::error::ExecutorError;
-use answers::outcome::{Outcome, Progress};
+use crate::step::take_step;
+use answers::outcome::Progress;
 use calls::step::Step;
-use known::{decode_known, nothing_known};
-use riscu::instruction::Decoded;
-use rows::row::{DEPTH, LIMIT, PC};
+use known::Known;
+use rows::row::{DEPTH, LIMIT, PC, RowMut};
 
 // What a run answers: still running (number 22) or how it ended; the pc before the last instruction, or the
 // row's if it still runs; and how many tape words are used.
@@ -33,64 +30,32 @@ pub struct Paused {
     pub used: usize,
 }
 
-fn pause(step: Step, pc: u64, used: usize) -> Paused
-    ensures { result ≡ pause_of step pc used }
-{
-    Paused { step, pc, used }
-}
-
-fn failed(error: ExecutorError, pc: u64, used: usize) -> Paused
-    ensures { result ≡ pause_of (Step.Ended (Failed error)) pc used }
-{
-    pause(Step::Ended(Outcome::Failed(error)), pc, used)
-}
-
 // Runs until depth is at the limit; write calls are handed out, or completed: their bytes go nowhere then. There is one loop
 // for both, since a second one, or a second caller of an instruction, makes either of them slower by half.
 fn run_to(
-    words: &mut [u64],
-    marks: &mut [u8],
+    row: &mut RowMut,
     limit: u64,
     tape: &[u64],
     used: usize,
-    known: &mut [u64],
+    known: &mut Known,
     handing: bool,
 ) -> Paused
-    requires shape { Shape words.old marks.old }
-    requires faithful { Faithful known.old }
-    ensures result_after { halted_as words.new marks.new result
-        ≡ halted_for handing (limit - depth_of (row words.old marks.old)) tape.now used
-        (row words.old marks.old) }
-    ensures known_after { Faithful known.new }
+    ensures result_after { halted_as row.new.words.now row.new.marks.now result
+        ≡ halted_for handing (limit - depth_of (lent row.old)) tape.now used (lent row.old) }
+    ensures same_slices { SameSlices row.old row.new }
 {
-    let mut at = used;
-    loop {
-        let pc = words[PC];
-        if limit <= words[DEPTH] {
-            return pause(Step::Running, pc, at);
-        }
-        match fetch_next(words, marks) {
-            Fetched::Word(word) => {
-                let Decoded::Valid(instruction) = decode_known(known, pc, word) else {
-                    return failed(ExecutorError::InvalidInstructionEncoding, pc, at);
-                };
-                let stepped = advance(words, marks, instruction, tape, at, handing);
-                at = stepped.used;
-                let step = stepped.step;
-                match step {
-                    Step::Running => {}
-                    Step::Write { buffer, size } => {
-                        return pause(Step::Write { buffer, size }, pc, at);
-                    }
-                    Step::Ended(outcome) => {
-                        return pause(Step::Ended(outcome), pc, at);
-                    }
-                }
-            }
-            Fetched::Refused(error) => {
-                return failed(error, pc, at);
-            }
-        }
+    let mut used = used;
+    while row.words[DEPTH] < limit {
+        let pc = row.words[PC];
+        let step = take_step(row, tape, &mut used, known, handing);
+        let Step::Running = step else {
+            return Paused { step, pc, used };
+        };
+    }
+    Paused {
+        step: Step::Running,
+        pc: row.words[PC],
+        used,
     }
 }
 
@@ -98,9 +63,24 @@ fn progress_of(step: Step) -> Progress
     ensures { result ≡ progress_of step }
 {
     match step {
-        Step::Running => Progress::Running,
-        Step::Write { buffer: _, size: _ } => Progress::Running,
+        Step::Running | Step::Write { .. } => Progress::Running,
         Step::Ended(outcome) => Progress::Ended(outcome),
+    }
+}
+
+fn run_row(row: &mut RowMut, step: u32, tape: &[u64], used: usize) -> Ran
+    requires { limit_of (lent row.old) + step < 2 ^ 64 }
+    ensures result_after { finished_as row.new.words.now row.new.marks.now result ≡ run_of step tape.now used (lent row.old) }
+    ensures same_slices { SameSlices row.old row.new }
+{
+    let limit = row.words[LIMIT] + step as u64;
+    row.words[LIMIT] = limit;
+    let mut known = Known::new();
+    let paused = run_to(row, limit, tape, used, &mut known, false);
+    Ran {
+        progress: progress_of(paused.step),
+        pc: paused.pc,
+        used: paused.used,
     }
 }
 
@@ -111,16 +91,26 @@ pub fn run(words: &mut [u64], marks: &mut [u8], step: u32, tape: &[u64], used: u
     ensures { finished_as words.new marks.new result
         ≡ run_of step tape.now used (row words.old marks.old) }
 {
-    let limit = words[LIMIT] + step as u64;
-    words[LIMIT] = limit;
-    let mut known = nothing_known();
-    let paused = run_to(words, marks, limit, tape, used, &mut known, false);
-    let came_to = paused.step;
-    Ran {
-        progress: progress_of(came_to),
-        pc: paused.pc,
-        used: paused.used,
-    }
+    let mut row = RowMut { words, marks };
+    run_row(&mut row, step, tape, used)
+}
+
+fn run_row_to_write(
+    row: &mut RowMut,
+    step: u32,
+    tape: &[u64],
+    used: usize,
+    known: &mut Known,
+) -> Paused
+    requires { limit_of (lent row.old) + step < 2 ^ 64 }
+    ensures result_after { halted_as row.new.words.now row.new.marks.now result
+        ≡ paused_of step tape.now used (lent row.old) }
+    ensures handed_out { HandedOut (memory_words (lent row.old)) result.step }
+    ensures same_slices { SameSlices row.old row.new }
+{
+    let limit = row.words[LIMIT] + step as u64;
+    row.words[LIMIT] = limit;
+    run_to(row, limit, tape, used, known, true)
 }
 
 // Runs at most `step` instructions more, up to a write call, which the caller completes by `write_to`, or not at all. What the run decodes
@@ -131,17 +121,14 @@ pub fn run_to_write(
     step: u32,
     tape: &[u64],
     used: usize,
-    known: &mut [u64],
+    known: &mut Known,
 ) -> Paused
     requires shape { Shape words.old marks.old }
     requires step_bound { limit_of (row words.old marks.old) + step < 2 ^ 64 }
-    requires faithful { Faithful known.old }
     ensures result_after { halted_as words.new marks.new result
         ≡ paused_of step tape.now used (row words.old marks.old) }
     ensures handed_out { HandedOut (memory_in marks.old) result.step }
-    ensures known_after { Faithful known.new }
 {
-    let limit = words[LIMIT] + step as u64;
-    words[LIMIT] = limit;
-    run_to(words, marks, limit, tape, used, known, true)
+    let mut row = RowMut { words, marks };
+    run_row_to_write(&mut row, step, tape, used, known)
 }

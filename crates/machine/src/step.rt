@@ -1,129 +1,127 @@
 // One instruction of an executor.
-ghost use Rattle.std.specs.Prelude.{◌≡◌, ◌+◌, ◌<◌, ◌^◌};
+ghost use Rattle.std.specs.Prelude.{◌≡◌, ◌+◌, ◌<◌, ◌^◌, Some};
 ghost use Rattle.riscu.specs.Registers.{Registers};
-ghost use Rattle.riscu.specs.declared.instruction.Decoded.TheVariants.{Valid};
-ghost use Rattle.rows.specs.Rows.{row, Shape, depth_of};
-ghost use Rattle.calls.specs.Calls.{called};
+ghost use Rattle.rows.specs.Rows.{depth_of};
+ghost use Rattle.rows.specs.Lent.{seen, lent, SameSlices};
+ghost use Rattle.calls.specs.Calls.{step_to};
 ghost use Rattle.machine.specs.Steps.{half_at, fetched, followed, executed, deeper};
-ghost use Rattle.machine.specs.Handing.{handed, handed_on};
+ghost use Rattle.machine.specs.Handing.{handed, handed_on, stepped_by};
 
 use answers::error::{ExecutorError, NotSupportedReason};
 use answers::outcome::Outcome;
-use calls::step::{Step, Stepped};
+use calls::step::Step;
 use calls::system::{complete_write, execute_ecall};
 use execution::{Next, execute};
+use known::Known;
 use riscu::instruction::Instruction;
-use rows::row::{DEPTH, PC, REGISTERS, read_memory};
+use rows::row::{DEPTH, PC, RowMut, RowRef};
 use values::Value;
 
 const HALF: u64 = 0x1_0000_0000;
 
-// The word at pc, or why there is none.
-#[derive(Clone, Copy)]
-pub enum Fetched {
-    Word(u32),
-    Refused(ExecutorError),
-}
-
 #[tactic(auto, unfolding(crate::specs::Steps::half_at))]
-fn half_at(pc: u64, value: Value) -> Fetched
+fn half_at(pc: u64, value: Value) -> Result<u32, ExecutorError>
     ensures { result ≡ half_at pc value }
 {
     let Value::Concrete(x) = value else {
-        return Fetched::Refused(ExecutorError::NotSupported(
-            NotSupportedReason::FetchUninitializedWord,
-        ));
+        return Err(ExecutorError::NotSupported(NotSupportedReason::FetchUninitializedWord));
     };
     if pc % 8 == 0 {
-        Fetched::Word((x % HALF) as u32)
+        Ok((x % HALF) as u32)
     } else {
-        Fetched::Word((x / HALF) as u32)
+        Ok((x / HALF) as u32)
     }
 }
 
+// The word at pc, or why there is none.
 #[tactic(auto, unfolding(crate::specs::Steps::fetched))]
-fn fetch(words: &[u64], marks: &[u8]) -> Fetched
-    requires { Shape words.now marks.now }
-    ensures { result ≡ fetched (row words.now marks.now) }
+fn fetch(row: RowRef) -> Result<u32, ExecutorError>
+    ensures { result ≡ fetched (seen row.entry) }
 {
-    let pc = words[PC];
+    let pc = row.words[PC];
     let m = (pc / 8) as usize;
-    if m < marks.len() - REGISTERS {
-        half_at(pc, read_memory(words, marks, m))
+    if m < row.memory_words() {
+        half_at(pc, row.read_memory(m))
     } else {
-        Fetched::Refused(ExecutorError::PcOutOfRange)
-    }
-}
-
-#[tactic(auto, unfolding(crate::specs::Steps::followed))]
-fn follow(words: &mut [u64], marks: &mut [u8], next: Next, tape: &[u64], used: usize) -> Stepped
-    requires { Shape words.old marks.old }
-    ensures { called words.new marks.new result
-        ≡ followed next tape.now used (row words.old marks.old) }
-{
-    match next {
-        Next::Instruction => Stepped {
-            step: Step::Running,
-            used,
-        },
-        Next::Call => execute_ecall(words, marks, tape, used),
-        Next::End(outcome) => Stepped {
-            step: Step::Ended(outcome),
-            used,
-        },
+        Err(ExecutorError::PcOutOfRange)
     }
 }
 
 // Fetches the next instruction, which counts as executed.
-pub(crate) fn fetch_next(words: &mut [u64], marks: &[u8]) -> Fetched
-    requires shape { Shape words.old marks.now }
-    requires marks_bound { depth_of (row words.old marks.now) + 1 < 2 ^ 64 }
-    ensures value { result ≡ fetched (deeper (row words.old marks.now)) }
-    ensures row_after { row words.new marks.now ≡ deeper (row words.old marks.now) }
+fn fetch_next(row: &mut RowMut) -> Result<u32, ExecutorError>
+    requires { depth_of (lent row.old) + 1 < 2 ^ 64 }
+    ensures value { result ≡ fetched (deeper (lent row.old)) }
+    ensures row_after { lent row.new ≡ deeper (lent row.old) }
+    ensures same_slices { SameSlices row.old row.new }
 {
-    words[DEPTH] = words[DEPTH] + 1;
-    fetch(words, marks)
+    row.words[DEPTH] = row.words[DEPTH] + 1;
+    fetch(row.view())
+}
+
+#[tactic(auto, unfolding(crate::specs::Steps::followed))]
+fn follow(row: &mut RowMut, next: Next, tape: &[u64], used: &mut usize) -> Step
+    ensures row_after { step_to result used.new (lent row.new) ≡ followed next tape.now used.old (lent row.old) }
+    ensures same_slices { SameSlices row.old row.new }
+{
+    match next {
+        Next::Instruction => Step::Running,
+        Next::Call => execute_ecall(row, tape, used),
+        Next::End(outcome) => Step::Ended(outcome),
+    }
 }
 
 #[tactic(auto, unfolding(crate::specs::Handing::handed))]
-fn settle(words: &mut [u64], marks: &mut [u8], step: Step, used: usize, handing: bool) -> Stepped
-    requires { Shape words.old marks.old }
-    ensures { called words.new marks.new result ≡ handed handing step used (row words.old marks.old) }
+fn settle(row: &mut RowMut, step: Step, handing: bool) -> Step
+    ensures row_after { (used : _) → step_to result used (lent row.new) ≡ handed handing step used (lent row.old) }
+    ensures same_slices { SameSlices row.old row.new }
 {
     match step {
-        Step::Running => Stepped { step, used },
-        Step::Write { buffer: _, size } => {
-            if handing {
-                return Stepped { step, used };
-            }
-            complete_write(words, marks, size);
-            Stepped {
-                step: Step::Running,
-                used,
-            }
+        Step::Write { buffer: _, size } if !handing => {
+            complete_write(row, size);
+            Step::Running
         }
-        Step::Ended(_) => Stepped { step, used },
+        _ => step,
     }
 }
 
 // An instruction; a write call is handed out, or completed at once: its bytes go nowhere then.
 #[tactic(auto, unfolding(crate::specs::Steps::executed))]
-pub(crate) fn advance(
-    words: &mut [u64],
-    marks: &mut [u8],
+fn advance(
+    row: &mut RowMut,
     instruction: Instruction,
     tape: &[u64],
-    used: usize,
+    used: &mut usize,
     handing: bool,
-) -> Stepped
-    requires shape { Shape words.old marks.old }
-    requires registers { Registers instruction }
-    ensures { called words.new marks.new result
-        ≡ handed_on handing (executed (Valid instruction) tape.now used (row words.old marks.old)) }
+) -> Step
+    requires { Registers instruction }
+    ensures row_after { step_to result used.new (lent row.new)
+        ≡ handed_on handing (executed (Some instruction) tape.now used.old (lent row.old)) }
+    ensures same_slices { SameSlices row.old row.new }
 {
-    let next = execute(words, marks, instruction);
-    let stepped = follow(words, marks, next, tape, used);
-    let at = stepped.used;
-    let came_to = stepped.step;
-    settle(words, marks, came_to, at, handing)
+    let next = execute(row, instruction);
+    let step = follow(row, next, tape, used);
+    settle(row, step, handing)
+}
+
+// The next instruction, fetched, decoded and carried out.
+pub(crate) fn take_step(
+    row: &mut RowMut,
+    tape: &[u64],
+    used: &mut usize,
+    known: &mut Known,
+    handing: bool,
+) -> Step
+    requires { depth_of (lent row.old) + 1 < 2 ^ 64 }
+    ensures row_after { step_to result used.new (lent row.new) ≡ stepped_by handing tape.now used.old (lent row.old) }
+    ensures same_slices { SameSlices row.old row.new }
+{
+    let pc = row.words[PC];
+    let word = match fetch_next(row) {
+        Ok(word) => word,
+        Err(error) => return Step::Ended(Outcome::Failed(error)),
+    };
+    match known.decode(pc, word) {
+        Some(instruction) => advance(row, instruction, tape, used, handing),
+        None => Step::Ended(Outcome::Failed(ExecutorError::InvalidInstructionEncoding)),
+    }
 }

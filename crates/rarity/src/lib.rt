@@ -13,6 +13,7 @@ use counting::cells::{BYTES, base_of, byte_of, place_at};
 use counting::counter::counter;
 use means::{MeanType, Tally};
 use store::layout::Layout;
+use store::row::row_in;
 use values::Value;
 
 // Takes in the eight counters of a concrete word.
@@ -42,22 +43,6 @@ fn tally_word(
     t
 }
 
-// The value at a place of row r.
-fn value_at(words: &[u64], marks: &[u8], store: Layout, r: usize, place: usize) -> Value
-    requires fit { Fit store words.now marks.now }
-    requires row { r < store.rows }
-    requires place { place ≤ store.marks }
-    ensures { result ≡ place_at (nth_row (rows_of store words.now marks.now) r) place }
-{
-    let word = r * store.words;
-    let mark = r * store.marks;
-    place_at(
-        &words[word..word + store.words],
-        &marks[mark..mark + store.marks],
-        place,
-    )
-}
-
 // The counters of row r among the rows that take part, all of them in list order.
 fn tally_row(words: &[u64], marks: &[u8], store: Layout, flags: &[bool], r: usize) -> Tally
     requires fit { Fit store words.now marks.now }
@@ -66,10 +51,10 @@ fn tally_row(words: &[u64], marks: &[u8], store: Layout, flags: &[bool], r: usiz
     ensures value { result ≡ tally (row_counters flags.now (rows_of store words.now marks.now) r) }
     ensures small { Within most_counters result }
 {
+    let row = row_in(words, marks, store, r);
     let mut t = Tally::new();
     for place in 0..=store.marks {
-        let value = value_at(words, marks, store, r, place);
-        if let Value::Concrete(x) = value {
+        if let Value::Concrete(x) = place_at(row, place) {
             t = tally_word(words, marks, store, flags, t, place, x);
         }
     }

@@ -1,5 +1,6 @@
 -- What a draw tells.
 use mathlib.Core.Bool.{Bool, true, false, cond}
+use Rattle.std.specs.Prelude.{Result, Ok, Err}
 use mathlib.Core.List.{List}
 use mathlib.Core.Path.{◌≡◌, refl, sym, ◌∙◌}
 use Prim.Native.Nat.{ℕ, ◌<◌}
@@ -7,18 +8,16 @@ use lib.ListN.{length}
 use borrow.Author.Tests.{ltb-true}
 use Rattle.answers.specs.declared.error.ExecutorError.{ExecutorError}
 use Rattle.rows.specs.Rows.{Row, log_room, log_count}
-use Rattle.reading.specs.declared.Drawn.{Drawn}
-use Rattle.reading.specs.declared.Drawn.TheVariants.{Word, Refused}
 use Rattle.reading.specs.Reading.{drawn}
 
 -- a word that two tests let through passed both
-both : (a b : Bool) (x y : ℕ) (e f : ExecutorError) → cond a (cond b (Word x) (Refused e)) (Refused f) ≡ Word y → (a ≡ true) × (b ≡ true)
+both : (a b : Bool) (x y : ℕ) (e f : ExecutorError) → cond a (cond b (Ok x) (Err e)) (Err f) ≡ Ok y → (a ≡ true) × (b ≡ true)
 both true true x y e f h = (refl, refl)
 both true false x y e f h = (refl, cc)
 both false b x y e f h = (cc, cc)
 
 -- a word was drawn: the log has room, and the tape a word
-pub drawn_room : {d : Drawn} (tape : List ℕ) (used : ℕ) (r : Row) (x : ℕ) → d ≡ drawn tape used r → d ≡ Word x → (log_count r < log_room r) × (used < length tape)
+pub drawn_room : {d : Result ℕ ExecutorError} (tape : List ℕ) (used : ℕ) (r : Row) (x : ℕ) → d ≡ drawn tape used r → d ≡ Ok x → (log_count r < log_room r) × (used < length tape)
 unfolding drawn
 drawn_room tape used r x e h =
     let passed = both _ _ _ _ _ _ (sym e ∙ h) in

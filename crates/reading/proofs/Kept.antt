@@ -1,5 +1,7 @@
 -- What reading leaves alone: the lengths of a row's words and marks, and its pc, break, depth and limit.
 use mathlib.Core.List.{List}
+use Rattle.std.specs.Prelude.{Result, Ok, Err}
+use Rattle.answers.specs.declared.error.ExecutorError.{ExecutorError}
 use mathlib.Core.Path.{◌≡◌, refl, ◌∙◌}
 use Prim.Native.Nat.{ℕ, zero, suc, ◌+◌, ◌*◌, ◌/◌, ◌%◌, ◌^◌, ◌<◌}
 use native.Mathlib.Omega.{arith}
@@ -12,8 +14,6 @@ use Rattle.answers.specs.declared.outcome.Progress.TheVariants.{Running, Ended}
 use Rattle.values.specs.declared.Value.{Value}
 use Rattle.values.specs.declared.Value.TheVariants.{Concrete, Uninitialized}
 use Rattle.rows.specs.Rows.{Row, header, log_start, log_count, set_word, set_log_count, memory_at}
-use Rattle.reading.specs.declared.Drawn.{Drawn}
-use Rattle.reading.specs.declared.Drawn.TheVariants.{Word, Refused}
 use Rattle.reading.specs.Reading.{Reached, running, onwards, ◌then_on◌, drawn, recorded, full_word, full_words, tail_of, tail, rest, bytes}
 
 -- f is what is kept: by two things in turn, if by each
@@ -28,10 +28,10 @@ module _ {A : Type 0} (f : Row → A) (then : ℕ → Row → Reached) (each : (
 
 -- what logging and storing a word keeps, reading keeps
 module _ {A : Type 0} (f : Row → A) (each : (m logged stored : ℕ) (r : Row) → f (recorded m logged stored r) ≡ f r) where
-  full_word_kept : (d : Drawn) (m used : ℕ) (r : Row) → f (full_word d m used r).row ≡ f r
+  full_word_kept : (d : Result ℕ ExecutorError) (m used : ℕ) (r : Row) → f (full_word d m used r).row ≡ f r
   unfolding full_word
-  full_word_kept (Word x) m used r = each m _ _ r
-  full_word_kept (Refused e) m used r = refl
+  full_word_kept (Ok x) m used r = each m _ _ r
+  full_word_kept (Err e) m used r = refl
 
   full_words_kept : (n : ℕ) (tape : List ℕ) (m used : ℕ) (r : Row) → f (full_words n tape m used r).row ≡ f r
   unfolding full_words
@@ -40,10 +40,10 @@ module _ {A : Type 0} (f : Row → A) (each : (m logged stored : ℕ) (r : Row) 
       then_kept f (full_words n tape (m + 1)) (λ u s. full_words_kept n tape (m + 1) u s) (full_word (drawn tape used r) m used r) r
       (full_word_kept (drawn tape used r) m used r)
 
-  tail_of_kept : (d : Drawn) (c unit m used : ℕ) (r : Row) → f (tail_of d c unit m used r).row ≡ f r
+  tail_of_kept : (d : Result ℕ ExecutorError) (c unit m used : ℕ) (r : Row) → f (tail_of d c unit m used r).row ≡ f r
   unfolding tail_of
-  tail_of_kept (Word x) c unit m used r = each m _ _ r
-  tail_of_kept (Refused e) c unit m used r = refl
+  tail_of_kept (Ok x) c unit m used r = each m _ _ r
+  tail_of_kept (Err e) c unit m used r = refl
 
   tail_kept : (v : Value) (tape : List ℕ) (unit m used : ℕ) (r : Row) → f (tail v tape unit m used r).row ≡ f r
   unfolding tail

@@ -1,5 +1,6 @@
 -- How the read call takes input: one tape word for each memory word, logged as it is used ("Executing" in document 01).
-use Rattle.std.specs.Prelude.{cond, List, ℕ, zero, suc, ◌+◌, ◌*◌, ◌/◌, ◌%◌, ◌^◌, eqb, ltb, length, get_or}
+use Rattle.std.specs.Prelude.{cond, List, Result, Ok, Err, ℕ, zero, suc, ◌+◌, ◌*◌, ◌/◌, ◌%◌, ◌^◌, eqb, ltb, length, get_or}
+use Rattle.answers.specs.declared.error.ExecutorError.{ExecutorError}
 use Rattle.answers.specs.declared.error.ExecutorError.TheVariants.{TapeEmpty, LogFull}
 use Rattle.answers.specs.declared.outcome.Outcome.{Outcome}
 use Rattle.answers.specs.declared.outcome.Outcome.TheVariants.{Failed}
@@ -7,18 +8,25 @@ use Rattle.answers.specs.declared.outcome.Progress.{Progress}
 use Rattle.answers.specs.declared.outcome.Progress.TheVariants.{Running, Ended}
 use Rattle.values.specs.declared.Value.{Value}
 use Rattle.values.specs.declared.Value.TheVariants.{Concrete, Uninitialized}
-use Rattle.rows.specs.Rows.{Row, row, log_start, log_room, log_count, set_word, set_log_count, memory_at, set_memory}
-use Rattle.reading.specs.declared.Drawn.{Drawn}
-use Rattle.reading.specs.declared.Drawn.TheVariants.{Word, Refused}
-use Rattle.reading.specs.declared.Moved.{Moved}
+use Rattle.rows.specs.Rows.{Row, log_start, log_room, log_count, set_word, set_log_count, memory_at, set_memory}
 
--- a row, with whether its executor goes on and the tape words used so far
+-- whether an executor goes on, and the tape words used so far
+pub record Moved : Type 0 where
+  pub progress : Progress
+  pub used : ℕ
+
+-- a row, with these
 pub record Reached : Type 0 where
   pub row : Row
   pub moved : Moved
 
-abbrev pub reached : List ℕ → List ℕ → Moved → Reached
-reached words marks moved = record { row = row words marks; moved = moved }
+-- what reading answers: it went through, or an error ended the executor
+abbrev pub progress_of : Result (Unit {0}) ExecutorError → Progress
+progress_of (Ok _) = Running
+progress_of (Err e) = Ended (Failed e)
+
+abbrev pub reached : Row → ℕ → Result (Unit {0}) ExecutorError → Reached
+reached r used result = record { row = r; moved = record { progress = progress_of result; used = used } }
 
 abbrev pub running : ℕ → Row → Reached
 running used r = record { row = r; moved = record { progress = Running; used = used } }
@@ -36,9 +44,9 @@ abbrev pub ◌then_on◌ : Reached → (ℕ → Row → Reached) → Reached
 x then_on then = onwards then x.moved.progress x.moved.used x.row
 
 -- the next word of the tape: 25 where the log is full, then 24 where the tape is empty
-unfoldable pub drawn : List ℕ → ℕ → Row → Drawn
+unfoldable pub drawn : List ℕ → ℕ → Row → Result ℕ ExecutorError
 drawn tape used r =
-    cond (ltb (log_count r) (log_room r)) (cond (ltb used (length tape)) (Word (get_or tape used 0)) (Refused TapeEmpty)) (Refused LogFull)
+    cond (ltb (log_count r) (log_room r)) (cond (ltb used (length tape)) (Ok (get_or tape used 0)) (Err TapeEmpty)) (Err LogFull)
 
 -- a word goes to the end of the log, and one to memory word m
 unfoldable pub recorded : ℕ → ℕ → ℕ → Row → Row
@@ -46,9 +54,9 @@ recorded m logged stored r =
     set_memory m (Concrete stored) (set_log_count (log_count r + 1) (set_word (log_start r + log_count r) logged r))
 
 -- a full word: memory word m takes a draw
-unfoldable pub full_word : Drawn → ℕ → ℕ → Row → Reached
-full_word (Word x) m used r = running (used + 1) (recorded m x x r)
-full_word (Refused e) m used r = ended (Failed e) used r
+unfoldable pub full_word : Result ℕ ExecutorError → ℕ → ℕ → Row → Reached
+full_word (Ok x) m used r = running (used + 1) (recorded m x x r)
+full_word (Err e) m used r = ended (Failed e) used r
 
 -- n full words from memory word m on
 unfoldable pub full_words : ℕ → List ℕ → ℕ → ℕ → Row → Reached
@@ -56,9 +64,9 @@ full_words zero tape m used r = running used r
 full_words (suc n) tape m used r = full_word (drawn tape used r) m used r then_on full_words n tape (m + 1)
 
 -- a tail of k bytes, unit being 2^8k: a draw replaces the low k bytes of the word that memory word m holds, and only those are logged
-unfoldable pub tail_of : Drawn → ℕ → ℕ → ℕ → ℕ → Row → Reached
-tail_of (Word x) held unit m used r = running (used + 1) (recorded m (x % unit) (held / unit * unit + x % unit) r)
-tail_of (Refused e) held unit m used r = ended (Failed e) used r
+unfoldable pub tail_of : Result ℕ ExecutorError → ℕ → ℕ → ℕ → ℕ → Row → Reached
+tail_of (Ok x) held unit m used r = running (used + 1) (recorded m (x % unit) (held / unit * unit + x % unit) r)
+tail_of (Err e) held unit m used r = ended (Failed e) used r
 
 -- on an uninitialised word reading stops without a draw
 unfoldable pub tail : Value → List ℕ → ℕ → ℕ → ℕ → Row → Reached

@@ -1,228 +1,153 @@
 // Input for a row: tape words into its memory and its log (the loop of the Rust's execute_read). For the layers above.
 #![tactic(auto)]
 
-ghost use Rattle.std.specs.Prelude.{◌≡◌, ◌+◌, ◌-◌, ◌*◌, ◌/◌, ◌<◌, ◌≤◌, ◌^◌, length, get_or};
-ghost use Rattle.rows.specs.Rows.{row, Shape, memory_in, log_room, log_count};
+ghost use Rattle.std.specs.Prelude.{◌≡◌, ◌+◌, ◌*◌, ◌/◌, ◌<◌, ◌≤◌, ◌^◌, OnOk, length};
+ghost use Rattle.rows.specs.Rows.{memory_words, log_room, log_count};
+ghost use Rattle.rows.specs.Lent.{seen, lent, SameSlices};
 ghost use Rattle.reading.specs.Reading.{reached, drawn as drawn_of, recorded, full_word, full_words, tail as tail_in, rest as rest_of, bytes as bytes_of};
 
 use answers::error::ExecutorError;
-use answers::outcome::{Outcome, Progress};
-use rows::row::{HEADER, LOG_COUNT, read_memory, write_memory};
+use rows::row::{HEADER, LOG_COUNT, RowMut, RowRef};
 use values::Value;
 
-// Whether the executor goes on, and how many tape words are used so far.
-#[derive(Clone, Copy)]
-pub struct Moved {
-    pub progress: Progress,
-    pub used: usize,
-}
-
 // The next tape word, or why there is none.
-#[derive(Clone, Copy)]
-pub enum Drawn {
-    Word(u64),
-    Refused(ExecutorError),
-}
-
 #[tactic(auto, unfolding(crate::specs::Reading::drawn))]
-fn draw(words: &[u64], marks: &[u8], tape: &[u64], used: usize) -> Drawn
-    requires { Shape words.now marks.now }
-    ensures { result ≡ drawn_of tape.now used (row words.now marks.now) }
+fn draw(row: RowRef, tape: &[u64], used: usize) -> Result<u64, ExecutorError>
+    ensures value { result ≡ drawn_of tape.now used (seen row.entry) }
+    ensures room { OnOk result (log_count (seen row.entry) < log_room (seen row.entry)) }
+    ensures in_tape { OnOk result (used < length tape.now) }
 {
-    let room = words.len() - (marks.len() + HEADER);
-    if room as u64 <= words[LOG_COUNT] {
-        return Drawn::Refused(ExecutorError::LogFull);
+    let room = row.words.len() - (row.marks.len() + HEADER);
+    if room as u64 <= row.words[LOG_COUNT] {
+        return Err(ExecutorError::LogFull);
     }
     if tape.len() <= used {
-        return Drawn::Refused(ExecutorError::TapeEmpty);
+        return Err(ExecutorError::TapeEmpty);
     }
-    Drawn::Word(tape[used])
+    Ok(tape[used])
 }
 
 // Logs a word, and stores one in memory word m.
 #[tactic(auto, unfolding(crate::specs::Reading::recorded))]
-fn record(words: &mut [u64], marks: &mut [u8], m: usize, logged: u64, stored: u64)
-    requires shape { Shape words.old marks.old }
-    requires m_bound { m < memory_in marks.old }
-    requires room { log_count (row words.old marks.old) < log_room (row words.old marks.old) }
-    ensures { row words.new marks.new ≡ recorded m logged stored (row words.old marks.old) }
+fn record(row: &mut RowMut, m: usize, logged: u64, stored: u64)
+    requires m_bound { m < memory_words (lent row.old) }
+    requires room { log_count (lent row.old) < log_room (lent row.old) }
+    ensures row_after { lent row.new ≡ recorded m logged stored (lent row.old) }
+    ensures same_slices { SameSlices row.old row.new }
 {
-    let count = words[LOG_COUNT] as usize;
-    let at = marks.len() + HEADER + count;
-    words[at] = logged;
-    words[LOG_COUNT] = (count + 1) as u64;
-    write_memory(words, marks, m, Value::Concrete(stored));
-}
-
-fn refuse(error: ExecutorError, used: usize) -> Moved
-    ensures { (result.progress ≡ Progress.Ended (Outcome.Failed error)) × (result.used ≡ used) }
-{
-    Moved {
-        progress: Progress::Ended(Outcome::Failed(error)),
-        used,
-    }
+    let count = row.words[LOG_COUNT] as usize;
+    let at = row.marks.len() + HEADER + count;
+    row.words[at] = logged;
+    row.words[LOG_COUNT] = (count + 1) as u64;
+    row.write_memory(m, Value::Concrete(stored));
 }
 
 #[tactic(auto, unfolding(crate::specs::Reading::full_word))]
-fn read_word(words: &mut [u64], marks: &mut [u8], tape: &[u64], m: usize, used: usize) -> Moved
-    requires shape { Shape words.old marks.old }
-    requires m_bound { m < memory_in marks.old }
-    ensures { reached words.new marks.new result
-        ≡ full_word (drawn_of tape.now used (row words.old marks.old)) m used
-        (row words.old marks.old) }
+fn read_word(
+    row: &mut RowMut,
+    tape: &[u64],
+    m: usize,
+    used: &mut usize,
+) -> Result<(), ExecutorError>
+    requires { m < memory_words (lent row.old) }
+    ensures row_after { reached (lent row.new) used.new result
+        ≡ full_word (drawn_of tape.now used.old (lent row.old)) m used.old (lent row.old) }
+    ensures same_slices { SameSlices row.old row.new }
 {
-    match draw(words, marks, tape, used) {
-        Drawn::Word(x) => {
-            record(words, marks, m, x, x);
-            Moved {
-                progress: Progress::Running,
-                used: used + 1,
-            }
-        }
-        Drawn::Refused(error) => refuse(error, used),
-    }
+    let x = draw(row.view(), tape, *used)?;
+    record(row, m, x, x);
+    *used += 1;
+    Ok(())
 }
 
 fn read_words(
-    words: &mut [u64],
-    marks: &mut [u8],
+    row: &mut RowMut,
     tape: &[u64],
     n: usize,
     m: usize,
-    used: usize,
-) -> Moved
-    requires shape { Shape words.old marks.old }
-    requires n_bound { m + n ≤ memory_in marks.old }
-    ensures { reached words.new marks.new result
-        ≡ full_words n tape.now m used (row words.old marks.old) }
+    used: &mut usize,
+) -> Result<(), ExecutorError>
+    requires { m + n ≤ memory_words (lent row.old) }
+    ensures row_after { reached (lent row.new) used.new result ≡ full_words n tape.now m used.old (lent row.old) }
+    ensures same_slices { SameSlices row.old row.new }
 {
-    let mut at = used;
-    let mut k = 0;
-    while k < n {
-        let moved = read_word(words, marks, tape, m + k, at);
-        at = moved.used;
-        let progress = moved.progress;
-        match progress {
-            Progress::Running => {}
-            Progress::Ended(outcome) => {
-                return Moved {
-                    progress: Progress::Ended(outcome),
-                    used: at,
-                };
-            }
-        }
-        k += 1;
+    for k in 0..n {
+        read_word(row, tape, m + k, used)?;
     }
-    Moved {
-        progress: Progress::Running,
-        used: at,
-    }
+    Ok(())
 }
 
 // 2^8k for a tail of k bytes.
+#[tactic(auto, using(crate::proofs::Tails::unit))]
 fn unit_of(k: u64) -> u64
-    requires k_nonzero { 0 < k }
-    requires k_bound { k < 8 }
+    requires { k < 8 }
     ensures { result ≡ 2 ^ (8 * k) }
 {
-    match k {
-        1 => 0x100,
-        2 => 0x1_0000,
-        3 => 0x100_0000,
-        4 => 0x1_0000_0000,
-        5 => 0x100_0000_0000,
-        6 => 0x1_0000_0000_0000,
-        _ => 0x100_0000_0000_0000,
-    }
+    1 << (8 * k)
 }
 
 // A tail of k bytes into memory word m, which holds `word`.
-#[tactic(auto, unfolding(crate::specs::Reading::tail, crate::specs::Reading::tail_of))]
+#[tactic(auto, unfolding(crate::specs::Reading::tail, crate::specs::Reading::tail_of), using(crate::proofs::Tails::tail_fits))]
 fn read_tail(
-    words: &mut [u64],
-    marks: &mut [u8],
+    row: &mut RowMut,
     tape: &[u64],
     word: Value,
     k: u64,
     m: usize,
-    used: usize,
-) -> Moved
-    requires shape { Shape words.old marks.old }
-    requires m_bound { m < memory_in marks.old }
+    used: &mut usize,
+) -> Result<(), ExecutorError>
+    requires m_bound { m < memory_words (lent row.old) }
     requires k_nonzero { 0 < k }
     requires k_bound { k < 8 }
-    ensures { reached words.new marks.new result
-        ≡ tail_in word tape.now (2 ^ (8 * k)) m used (row words.old marks.old) }
+    ensures row_after { reached (lent row.new) used.new result
+        ≡ tail_in word tape.now (2 ^ (8 * k)) m used.old (lent row.old) }
+    ensures same_slices { SameSlices row.old row.new }
 {
     let Value::Concrete(before) = word else {
-        return Moved {
-            progress: Progress::Running,
-            used,
-        };
+        return Ok(());
     };
-    match draw(words, marks, tape, used) {
-        Drawn::Word(x) => {
-            let unit = unit_of(k);
-            let low = x % unit;
-            record(words, marks, m, low, before / unit * unit + low);
-            Moved {
-                progress: Progress::Running,
-                used: used + 1,
-            }
-        }
-        Drawn::Refused(error) => refuse(error, used),
-    }
+    let x = draw(row.view(), tape, *used)?;
+    let unit = unit_of(k);
+    let low = x % unit;
+    record(row, m, low, before / unit * unit + low);
+    *used += 1;
+    Ok(())
 }
 
 #[tactic(auto, unfolding(crate::specs::Reading::rest))]
 fn read_rest(
-    words: &mut [u64],
-    marks: &mut [u8],
+    row: &mut RowMut,
     tape: &[u64],
     size: u64,
     m: usize,
-    used: usize,
-) -> Moved
-    requires shape { Shape words.old marks.old }
-    requires size_bound { m + (size + 7) / 8 ≤ memory_in marks.old }
-    ensures { reached words.new marks.new result
-        ≡ rest_of size tape.now m used (row words.old marks.old) }
+    used: &mut usize,
+) -> Result<(), ExecutorError>
+    requires { m + (size + 7) / 8 ≤ memory_words (lent row.old) }
+    ensures row_after { reached (lent row.new) used.new result ≡ rest_of size tape.now m used.old (lent row.old) }
+    ensures same_slices { SameSlices row.old row.new }
 {
     let k = size % 8;
     if k == 0 {
-        return Moved {
-            progress: Progress::Running,
-            used,
-        };
+        return Ok(());
     }
     let last = m + (size / 8) as usize;
-    let word = read_memory(words, marks, last);
-    read_tail(words, marks, tape, word, k, last, used)
+    let word = row.view().read_memory(last);
+    read_tail(row, tape, word, k, last, used)
 }
 
 // size bytes into the memory words from m on.
 #[tactic(auto, unfolding(crate::specs::Reading::bytes, crate::specs::Reading::onwards))]
 pub fn read_bytes(
-    words: &mut [u64],
-    marks: &mut [u8],
+    row: &mut RowMut,
     tape: &[u64],
     size: u64,
     m: usize,
-    used: usize,
-) -> Moved
-    requires shape { Shape words.old marks.old }
-    requires size_bound { m + (size + 7) / 8 ≤ memory_in marks.old }
-    ensures { reached words.new marks.new result
-        ≡ bytes_of size tape.now m used (row words.old marks.old) }
+    used: &mut usize,
+) -> Result<(), ExecutorError>
+    requires { m + (size + 7) / 8 ≤ memory_words (lent row.old) }
+    ensures row_after { reached (lent row.new) used.new result ≡ bytes_of size tape.now m used.old (lent row.old) }
+    ensures same_slices { SameSlices row.old row.new }
 {
-    let moved = read_words(words, marks, tape, (size / 8) as usize, m, used);
-    let at = moved.used;
-    let progress = moved.progress;
-    match progress {
-        Progress::Running => read_rest(words, marks, tape, size, m, at),
-        Progress::Ended(outcome) => Moved {
-            progress: Progress::Ended(outcome),
-            used: at,
-        },
-    }
+    read_words(row, tape, (size / 8) as usize, m, used)?;
+    read_rest(row, tape, size, m, used)
 }

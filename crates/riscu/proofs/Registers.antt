@@ -1,15 +1,11 @@
 -- What decodes names only registers that there are, since each register field has five bits.
-use mathlib.Core.Bool.{Bool, true, false, cond}
-use Prim.Native.Nat.{ℕ, ◌%◌, ◌<◌}
-use native.Mathlib.Omega.{arith}
-use lib.Dec.{eqb}
+use Rattle.std.specs.Prelude.{Bool, true, false, cond, ℕ, Option, Some, None, ◌%◌, ◌<◌, eqb}
+use Rattle.std.proofs.Common.{arith}
 use Rattle.riscu.specs.Formats.{opcode, funct3, funct7, r_type, i_type, s_type, b_type, u_type, j_type}
 use Rattle.riscu.specs.Decoding.{decoded, decoded_op, only_if}
 use Rattle.riscu.specs.Registers.{RRegisters, IRegisters, SRegisters, BRegisters, Registers, RegistersIn}
 use Rattle.riscu.specs.declared.instruction.Instruction.{Instruction}
 use Rattle.riscu.specs.declared.instruction.Instruction.TheVariants.{Lui, Jal, Jalr, Beq, Ld, Sd, Addi, Add, Sub, Mul, Sltu, Divu, Remu, Ecall}
-use Rattle.riscu.specs.declared.instruction.Decoded.{Decoded}
-use Rattle.riscu.specs.declared.instruction.Decoded.TheVariants.{Valid, Invalid}
 
 field : (x : ℕ) → x % 32 < 32
 field x = omega arith
@@ -27,20 +23,20 @@ b_registers : (x : ℕ) → BRegisters (b_type x)
 b_registers x = record { rs1 = field _; rs2 = field _ }
 
 -- the same claim as RegistersIn, in a form from which a proof can tell the word's decoding
-data Named : Decoded → Type 0 where
-  valid : {i : Instruction} → Registers i → Named (Valid i)
-  invalid : Named Invalid
+data Named : Option Instruction → Type 0 where
+  valid : {i : Instruction} → Registers i → Named (Some i)
+  invalid : Named None
 
-named : {d : Decoded} → Named d → RegistersIn d
+named : {d : Option Instruction} → Named d → RegistersIn d
 named (valid r) = r
 named invalid = tt
 
 -- what holds of both holds of the one that a test chooses
-either : (b : Bool) {d e : Decoded} → Named d → Named e → Named (cond b d e)
+either : (b : Bool) {d e : Option Instruction} → Named d → Named e → Named (cond b d e)
 either true p q = p
 either false p q = q
 
-named_only_if : (field value : ℕ) {i : Instruction} → Named (Valid i) → Named (only_if field value i)
+named_only_if : (field value : ℕ) {i : Instruction} → Named (Some i) → Named (only_if field value i)
 named_only_if field value p = either (eqb field value) p invalid
 
 op_registers : (x : ℕ) → Named (decoded_op x)

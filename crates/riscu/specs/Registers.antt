@@ -1,13 +1,11 @@
 -- A stepping stone between contracts: every register that an instruction names is one of the 32, as the layers above ask of an instruction.
-use Rattle.std.specs.Prelude.{◌<◌}
+use Rattle.std.specs.Prelude.{Option, Some, None, ◌<◌}
 use Rattle.riscu.specs.declared.instruction.RType.{RType}
 use Rattle.riscu.specs.declared.instruction.IType.{IType}
 use Rattle.riscu.specs.declared.instruction.SType.{SType}
 use Rattle.riscu.specs.declared.instruction.BType.{BType}
 use Rattle.riscu.specs.declared.instruction.Instruction.{Instruction}
 use Rattle.riscu.specs.declared.instruction.Instruction.TheVariants.{Lui, Jal, Jalr, Beq, Ld, Sd, Addi, Add, Sub, Mul, Sltu, Divu, Remu, Ecall}
-use Rattle.riscu.specs.declared.instruction.Decoded.{Decoded}
-use Rattle.riscu.specs.declared.instruction.Decoded.TheVariants.{Valid, Invalid}
 
 pub record RRegisters (t : RType) : Type 0 where
   pub rd : t.rd < 32
@@ -42,6 +40,6 @@ Registers (Divu t) = RRegisters t
 Registers (Remu t) = RRegisters t
 Registers Ecall = Unit {0}
 
-abbrev pub RegistersIn : Decoded → Type 0
-RegistersIn (Valid i) = Registers i
-RegistersIn Invalid = Unit {0}
+abbrev pub RegistersIn : Option Instruction → Type 0
+RegistersIn (Some i) = Registers i
+RegistersIn None = Unit {0}

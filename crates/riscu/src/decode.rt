@@ -1,43 +1,26 @@
 // From a word to its instruction, by opcode, funct3 and funct7.
 ghost use Rattle.std.specs.Prelude.{◌≡◌, ◌<◌, ◌^◌};
 ghost use Rattle.riscu.specs.Formats.{r_type, i_type, s_type, b_type, u_type, j_type};
-ghost use Rattle.riscu.specs.Formats.{rd as rd_of, rs1 as rs1_of, rs2 as rs2_of, funct3 as funct3_of};
+ghost use Rattle.riscu.specs.Formats.{funct3 as funct3_of};
 ghost use Rattle.riscu.specs.Decoding.{decoded, decoded_op};
 
+use crate::bits::bits;
 use crate::immediate::{imm_i, imm_j, imm_s, imm_u};
-use crate::instruction::{BType, Decoded, IType, Instruction, JType, RType, SType, UType};
-
-fn rd(word: u64) -> usize
-    ensures { result ≡ rd_of word }
-{
-    (word / 128 % 32) as usize
-}
-
-fn rs1(word: u64) -> usize
-    ensures { result ≡ rs1_of word }
-{
-    (word / 0x8000 % 32) as usize
-}
-
-fn rs2(word: u64) -> usize
-    ensures { result ≡ rs2_of word }
-{
-    (word / 0x10_0000 % 32) as usize
-}
+use crate::instruction::{BType, IType, Instruction, JType, RType, SType, UType};
 
 fn funct3(word: u64) -> u64
     ensures { result ≡ funct3_of word }
 {
-    word / 0x1000 % 8
+    bits::<14, 12>(word)
 }
 
 fn r_type(word: u64) -> RType
     ensures { result ≡ r_type word }
 {
     RType {
-        rd: rd(word),
-        rs1: rs1(word),
-        rs2: rs2(word),
+        rd: bits::<11, 7>(word) as usize,
+        rs1: bits::<19, 15>(word) as usize,
+        rs2: bits::<24, 20>(word) as usize,
     }
 }
 
@@ -46,8 +29,8 @@ fn i_type(word: u64) -> IType
     ensures { result ≡ i_type word }
 {
     IType {
-        rd: rd(word),
-        rs1: rs1(word),
+        rd: bits::<11, 7>(word) as usize,
+        rs1: bits::<19, 15>(word) as usize,
         imm: imm_i(word),
     }
 }
@@ -57,8 +40,8 @@ fn s_type(word: u64) -> SType
     ensures { result ≡ s_type word }
 {
     SType {
-        rs1: rs1(word),
-        rs2: rs2(word),
+        rs1: bits::<19, 15>(word) as usize,
+        rs2: bits::<24, 20>(word) as usize,
         imm: imm_s(word),
     }
 }
@@ -68,8 +51,8 @@ fn b_type(raw: u32) -> BType
 {
     let word = raw as u64;
     BType {
-        rs1: rs1(word),
-        rs2: rs2(word),
+        rs1: bits::<19, 15>(word) as usize,
+        rs2: bits::<24, 20>(word) as usize,
         word: raw,
     }
 }
@@ -79,7 +62,7 @@ fn u_type(word: u64) -> UType
     ensures { result ≡ u_type word }
 {
     UType {
-        rd: rd(word),
+        rd: bits::<11, 7>(word) as usize,
         imm: imm_u(word),
     }
 }
@@ -89,74 +72,74 @@ fn j_type(word: u64) -> JType
     ensures { result ≡ j_type word }
 {
     JType {
-        rd: rd(word),
+        rd: bits::<11, 7>(word) as usize,
         imm: imm_j(word),
     }
 }
 
 // Opcode 0x33: register with register. funct7 says which group of operations it is, funct3 which of the group.
 #[tactic(auto, unfolding(crate::specs::Decoding::decoded_op))]
-fn decode_op(word: u64) -> Decoded
+fn decode_op(word: u64) -> Option<Instruction>
     ensures { result ≡ decoded_op word }
 {
-    let funct7 = word / 0x200_0000 % 128;
+    let funct7 = bits::<31, 25>(word);
     let funct3 = funct3(word);
     match funct7 {
         0 => match funct3 {
-            0 => Decoded::Valid(Instruction::Add(r_type(word))),
-            3 => Decoded::Valid(Instruction::Sltu(r_type(word))),
-            _ => Decoded::Invalid,
+            0 => Some(Instruction::Add(r_type(word))),
+            3 => Some(Instruction::Sltu(r_type(word))),
+            _ => None,
         },
         1 => match funct3 {
-            0 => Decoded::Valid(Instruction::Mul(r_type(word))),
-            5 => Decoded::Valid(Instruction::Divu(r_type(word))),
-            7 => Decoded::Valid(Instruction::Remu(r_type(word))),
-            _ => Decoded::Invalid,
+            0 => Some(Instruction::Mul(r_type(word))),
+            5 => Some(Instruction::Divu(r_type(word))),
+            7 => Some(Instruction::Remu(r_type(word))),
+            _ => None,
         },
         0x20 => match funct3 {
-            0 => Decoded::Valid(Instruction::Sub(r_type(word))),
-            _ => Decoded::Invalid,
+            0 => Some(Instruction::Sub(r_type(word))),
+            _ => None,
         },
-        _ => Decoded::Invalid,
+        _ => None,
     }
 }
 
 // The instruction that a word encodes, or that it encodes none of the fourteen. Each arm tests its own funct3, so that
 // it is one test of the word's bits.
 #[tactic(auto, unfolding(crate::specs::Decoding::decoded))]
-pub fn decode(raw: u32) -> Decoded
+pub fn decode(raw: u32) -> Option<Instruction>
     ensures { result ≡ decoded raw }
 {
     let word = raw as u64;
-    let opcode = word % 128;
+    let opcode = bits::<6, 0>(word);
     match opcode {
-        0x37 => Decoded::Valid(Instruction::Lui(u_type(word))),
-        0x6F => Decoded::Valid(Instruction::Jal(j_type(word))),
+        0x37 => Some(Instruction::Lui(u_type(word))),
+        0x6F => Some(Instruction::Jal(j_type(word))),
         0x67 => match funct3(word) {
-            0 => Decoded::Valid(Instruction::Jalr(i_type(word))),
-            _ => Decoded::Invalid,
+            0 => Some(Instruction::Jalr(i_type(word))),
+            _ => None,
         },
         0x63 => match funct3(word) {
-            0 => Decoded::Valid(Instruction::Beq(b_type(raw))),
-            _ => Decoded::Invalid,
+            0 => Some(Instruction::Beq(b_type(raw))),
+            _ => None,
         },
         0x13 => match funct3(word) {
-            0 => Decoded::Valid(Instruction::Addi(i_type(word))),
-            _ => Decoded::Invalid,
+            0 => Some(Instruction::Addi(i_type(word))),
+            _ => None,
         },
         0x03 => match funct3(word) {
-            3 => Decoded::Valid(Instruction::Ld(i_type(word))),
-            _ => Decoded::Invalid,
+            3 => Some(Instruction::Ld(i_type(word))),
+            _ => None,
         },
         0x23 => match funct3(word) {
-            3 => Decoded::Valid(Instruction::Sd(s_type(word))),
-            _ => Decoded::Invalid,
+            3 => Some(Instruction::Sd(s_type(word))),
+            _ => None,
         },
         0x33 => decode_op(word),
         0x73 => match word {
-            0x73 => Decoded::Valid(Instruction::Ecall),
-            _ => Decoded::Invalid,
+            0x73 => Some(Instruction::Ecall),
+            _ => None,
         },
-        _ => Decoded::Invalid,
+        _ => None,
     }
 }

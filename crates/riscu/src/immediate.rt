@@ -1,6 +1,8 @@
-// The immediates of a word, put together by / and %.
+// The immediates of a word, put together from parts of it.
 ghost use Rattle.std.specs.Prelude.{◌≡◌, ◌*◌, ◌<◌, ◌≤◌, ◌^◌};
 ghost use Rattle.riscu.specs.Formats.{signed, imm_i, imm_s, imm_b, imm_j, imm_u};
+
+use crate::bits::bits;
 
 // A number whose highest bit, its sign, is worth `sign`, as the 64-bit number of the same value.
 #[tactic(auto, unfolding(crate::specs::Formats::signed))]
@@ -19,14 +21,14 @@ pub(crate) fn imm_i(word: u64) -> u64
     requires { word < 2 ^ 32 }
     ensures { result ≡ imm_i word }
 {
-    sign_extend(word / 0x10_0000 % 0x1000, 0x800)
+    sign_extend(bits::<31, 20>(word), 0x800)
 }
 
 pub(crate) fn imm_s(word: u64) -> u64
     requires { word < 2 ^ 32 }
     ensures { result ≡ imm_s word }
 {
-    sign_extend(word / 0x200_0000 % 128 * 32 + word / 128 % 32, 0x800)
+    sign_extend(bits::<31, 25>(word) * 32 + bits::<11, 7>(word), 0x800)
 }
 
 pub(crate) fn imm_j(word: u64) -> u64
@@ -34,10 +36,10 @@ pub(crate) fn imm_j(word: u64) -> u64
     ensures { result ≡ imm_j word }
 {
     sign_extend(
-        word / 0x8000_0000 % 2 * 0x10_0000
-            + word / 0x1000 % 256 * 0x1000
-            + word / 0x10_0000 % 2 * 0x800
-            + word / 0x20_0000 % 1024 * 2,
+        bits::<31, 31>(word) * 0x10_0000
+            + bits::<19, 12>(word) * 0x1000
+            + bits::<20, 20>(word) * 0x800
+            + bits::<30, 21>(word) * 2,
         0x10_0000,
     )
 }
@@ -47,7 +49,7 @@ pub(crate) fn imm_u(word: u64) -> u64
     requires { word < 2 ^ 32 }
     ensures { result ≡ imm_u word }
 {
-    word / 0x1000 % 0x10_0000 * 0x1000
+    bits::<31, 12>(word) * 0x1000
 }
 
 // The immediate of a branch (BType), for where it is taken.
@@ -56,10 +58,10 @@ pub fn imm_b(raw: u32) -> u64
 {
     let word = raw as u64;
     sign_extend(
-        word / 0x8000_0000 % 2 * 0x1000
-            + word / 128 % 2 * 0x800
-            + word / 0x200_0000 % 64 * 32
-            + word / 256 % 16 * 2,
+        bits::<31, 31>(word) * 0x1000
+            + bits::<7, 7>(word) * 0x800
+            + bits::<30, 25>(word) * 32
+            + bits::<11, 8>(word) * 2,
         0x1000,
     )
 }

@@ -70,10 +70,3 @@ pub enum Instruction {
     Remu(RType),
     Ecall,
 }
-
-// What a word decodes to. An invalid encoding is number 21 (docs/NUMBERS.md).
-#[derive(Clone, Copy)]
-pub enum Decoded {
-    Valid(Instruction),
-    Invalid,
-}

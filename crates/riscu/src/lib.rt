@@ -2,6 +2,7 @@
 // For hosts and for the layers below in crates.txt. The definitions are in specs/.
 #![tactic(auto)]
 
+mod bits;
 pub mod decode;
 pub mod immediate;
 pub mod instruction;

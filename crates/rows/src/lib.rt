@@ -1,6 +1,5 @@
 // The row of one executor, lent as two slices: its words and its marks. For the layers above.
 #![tactic(auto)]
 
-pub mod clear;
 pub mod limits;
 pub mod row;

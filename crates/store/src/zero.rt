@@ -1,9 +1,18 @@
 // Rows set to zero.
-ghost use Rattle.std.specs.Prelude.{◌≡◌, ◌≤◌, ◌<◌, set};
+ghost use Rattle.std.specs.Prelude.{◌≡◌, ◌≤◌, ◌<◌, length, set};
+ghost use Rattle.rows.specs.Rows.{row, blank, Shape};
 ghost use Rattle.store.specs.Store.{Fit, rows_of, zero_row, rows_zeroed};
 
 use crate::layout::Layout;
-use rows::clear::{clear_marks, clear_words};
+use rows::row::RowMut;
+
+fn clear(words: &mut [u64], marks: &mut [u8])
+    requires { Shape words.old marks.old }
+    ensures { row words.new marks.new ≡ blank (length words.old) (length marks.old) }
+{
+    let mut row = RowMut { words, marks };
+    row.clear();
+}
 
 fn zero_row(words: &mut [u64], marks: &mut [u8], store: Layout, r: usize)
     requires fit { Fit store words.old marks.old }
@@ -12,8 +21,10 @@ fn zero_row(words: &mut [u64], marks: &mut [u8], store: Layout, r: usize)
 {
     let from_word = r * store.words;
     let from_mark = r * store.marks;
-    clear_words(&mut words[from_word..from_word + store.words]);
-    clear_marks(&mut marks[from_mark..from_mark + store.marks]);
+    clear(
+        &mut words[from_word..from_word + store.words],
+        &mut marks[from_mark..from_mark + store.marks],
+    );
 }
 
 // The rows from `from` on become zero.

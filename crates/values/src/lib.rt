@@ -2,7 +2,7 @@
 #![tactic(auto)]
 
 ghost use Rattle.std.specs.Prelude.{◌≡◌, ◌<◌, length};
-ghost use Rattle.values.specs.Values.{value_at};
+ghost use Rattle.values.specs.Values.{value_at, RegisterFile};
 
 // What a register or a memory word holds.
 #[derive(Clone, Copy)]
@@ -23,5 +23,23 @@ pub fn value_at(words: &[u64], marks: &[u8], n: usize) -> Value
         Value::Uninitialized
     } else {
         Value::Concrete(words[n])
+    }
+}
+
+// The words and marks of registers, and of what follows them.
+#[derive(Clone, Copy)]
+pub struct Slots<'a> {
+    pub words: &'a [u64],
+    pub marks: &'a [u8],
+    ghost registers: { RegisterFile words.now marks.now },
+}
+
+impl<'a> Slots<'a> {
+    // The value of register n.
+    pub fn register(&self, n: usize) -> Value
+        requires { n < 32 }
+        ensures { result ≡ value_at self.now.words.now self.now.marks.now n }
+    {
+        value_at(self.words, self.marks, n)
     }
 }
