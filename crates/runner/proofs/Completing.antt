@@ -1,10 +1,5 @@
 -- Unless its output is full, a run whose write calls are put out ends as the run that only completes them.
-use mathlib.Core.Bool.{Bool, true, false, cond}
-use mathlib.Core.List.{List}
-use mathlib.Core.Path.{◌≡◌, refl, sym, ap, subst}
-use Prim.Native.Nat.{ℕ, zero, suc, ◌+◌, ◌-◌}
-use lib.Dec.{leb}
-use lib.ListN.{length}
+use Rattle.std.proofs.Common.{Bool, true, false, cond, Result, Ok, Err, List, ◌≡◌, refl, sym, ap, subst, ℕ, zero, suc, ◌+◌, ◌-◌, leb, length}
 use Rattle.answers.specs.Numbers.{error_number, progress_number}
 use Rattle.answers.specs.declared.error.ExecutorError.TheVariants.{OutputFull}
 use Rattle.answers.specs.declared.outcome.Outcome.TheVariants.{Failed}
@@ -18,10 +13,8 @@ use Rattle.loader.specs.Loading.{Program}
 use Rattle.machine.specs.Steps.{stepped, settled, advanced}
 use Rattle.machine.specs.Runs.{Finished, stops, continued, run_for, run_of}
 use Rattle.machine.specs.Writes.{bytes_from}
-use Rattle.checks.specs.declared.refusal.Checked.{Checked}
-use Rattle.checks.specs.declared.refusal.Checked.TheVariants.{Accepted, Refused}
+use Rattle.checks.specs.declared.refusal.Refusal.{Refusal}
 use Rattle.executor.specs.Entries.{creation_checked, created_row, Answered, answered, run_answered, run_answer}
-use Rattle.executor.specs.declared.RunAnswer.TheVariants as answer
 use Rattle.runner.specs.Serving.{Served, silent, preceded, served_by, served_for, served_of}
 use Rattle.runner.specs.Entry.{Left, served_entry, run_program, OneRun}
 
@@ -64,14 +57,14 @@ numbered p h e = h (ap progress_number e)
 abbrev answered_by : Left → Answered
 answered_by x = record { row = x.row; answer = x.printed.answer }
 
-entry_run : (c : Checked) (step : ℕ) (input : List ℕ) (r : Row) (output : List ℕ) → let x = served_entry c step input r output in
+entry_run : (c : Result (Unit {0}) Refusal) (step : ℕ) (input : List ℕ) (r : Row) (output : List ℕ) → let x = served_entry c step input r output in
     ((run_answer x.printed.answer).number ≡ error_number OutputFull → ⊥) → answered_by x ≡ run_answered c step input r
 unfolding served_entry run_answered served_of run_of
-entry_run Accepted step input r output h =
+entry_run (Ok t) step input r output h =
     let ran = (served_for (limit_of r + step - depth_of r) input (length output) 0 (set_limit (limit_of r + step) r)).finished.ran in
-    ap (λ (x : Finished). answered x.row.words x.row.marks (answer.Ran x.ran))
+    ap (λ (x : Finished). answered x.row.words x.row.marks (Ok x.ran))
     (served_run (limit_of r + step - depth_of r) input (length output) 0 (set_limit (limit_of r + step) r) (numbered ran.progress h))
-entry_run (Refused f) step input r output h = refl
+entry_run (Err f) step input r output h = refl
 
 -- so of what an entry leaves
 pub is_one_run : (memory log step : ℕ) (p : Program) (input : List ℕ) (r : Row) (output : List ℕ) {x : Left}

@@ -1,8 +1,5 @@
 -- An entry makes a new executor that can run, or is refused; either way it leaves what its definition says.
-use mathlib.Core.List.{List}
-use mathlib.Core.Path.{◌≡◌, refl, sym, ap, ◌∙◌}
-use Prim.Native.Nat.{ℕ}
-use lib.ListN.{length}
+use Rattle.std.proofs.Common.{Result, Ok, Err, List, ◌≡◌, refl, sym, ap, ◌∙◌, ℕ, length}
 use Rattle.laws.proofs.Absurd.{impossible}
 use Rattle.rows.specs.Rows.{Row, Shape, limit_of}
 use Rattle.loader.specs.Loading.{Program, new_executor}
@@ -12,10 +9,7 @@ use Rattle.machine.specs.Runs.{Finished, finished_as}
 use Rattle.machine.specs.declared.run.Ran.{Ran}
 use Rattle.checks.specs.Tests.{checked_by}
 use Rattle.checks.specs.declared.refusal.Refusal.{Refusal}
-use Rattle.checks.specs.declared.refusal.Checked.{Checked}
-use Rattle.checks.specs.declared.refusal.Checked.TheVariants.{Accepted, Refused}
 use Rattle.executor.specs.Entries.{size_tests, creation_checked, created_row}
-use Rattle.executor.specs.declared.RunAnswer.TheVariants as answer
 use Rattle.executor.proofs.Accepted.{Sizes, sizes_accepted, creation_refused}
 use Rattle.writing.specs.Writing.{Wrote}
 use Rattle.writing.proofs.Writing.{wrote_front}
@@ -23,12 +17,12 @@ use Rattle.runner.specs.Serving.{served_of}
 use Rattle.runner.specs.Entry.{left, left_by, served_entry, run_program}
 
 -- new is what c, the verdict on the sizes and the program, made of the lent row r
-module _ (memory log : ℕ) (p : Program) (r : Row) {c : Checked} (e : c ≡ creation_checked memory log p r)
+module _ (memory log : ℕ) (p : Program) (r : Row) {c : Result (Unit {0}) Refusal} (e : c ≡ creation_checked memory log p r)
     {new : Row} (n : new ≡ created_row c p r) where
-  module _ (h : c ≡ Accepted) where
-    sized : (sizes : Checked) → sizes ≡ checked_by (size_tests memory log r) → Sizes memory r
-    sized Accepted s = sizes_accepted memory log r s refl
-    sized (Refused f) s = let k : Refused f ≡ Accepted = creation_refused memory log r s p refl ∙ sym e ∙ h in impossible cc
+  module _ (h : c ≡ Ok tt) where
+    sized : (sizes : Result (Unit {0}) Refusal) → sizes ≡ checked_by (size_tests memory log r) → Sizes memory r
+    sized (Ok t) s = sizes_accepted memory log r s refl
+    sized (Err f) s = let k : Err f ≡ Ok tt = creation_refused memory log r s p refl ∙ sym e ∙ h in impossible cc
 
     lent : Sizes memory r
     lent = sized (checked_by (size_tests memory log r)) refl
@@ -52,9 +46,9 @@ module _ (memory log : ℕ) (p : Program) (r : Row) {c : Checked} (e : c ≡ cre
     unfolding run_program
     entered = rw (n, e)
 
-    pub served : c ≡ Accepted → {words marks out : List ℕ} {ran : Ran} {size : ℕ} → let x = served_of step input (length output) 0 new in
+    pub served : c ≡ Ok tt → {words marks out : List ℕ} {ran : Ran} {size : ℕ} → let x = served_of step input (length output) 0 new in
         finished_as words marks ran ≡ x.finished → Wrote output 0 x.output size out
-        → left words marks out (record { answer = answer.Ran ran; written = size }) ≡ run_program memory log step p input r output
+        → left words marks out (record { answer = Ok ran; written = size }) ≡ run_program memory log step p input r output
     unfolding served_entry
     served h {words} {marks} {out} {ran} {size} f w =
         let front = wrote_front w in
@@ -62,7 +56,7 @@ module _ (memory log : ℕ) (p : Program) (r : Row) {c : Checked} (e : c ≡ cre
         rw (front.0, front.1.0) (ap (λ (y : Finished). left_by (record { finished = y; output = text }) output) f)
         ∙ (rw h at entered)
 
-    pub refused : {f : Refusal} → c ≡ Refused f
-        → left new.words new.marks output (record { answer = answer.Refused f; written = 0 }) ≡ run_program memory log step p input r output
+    pub refused : {f : Refusal} → c ≡ Err f
+        → left new.words new.marks output (record { answer = Err f; written = 0 }) ≡ run_program memory log step p input r output
     unfolding served_entry
     refused h = rw h at entered

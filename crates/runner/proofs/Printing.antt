@@ -1,10 +1,6 @@
 -- The part of an output that the bytes of a write call go to: lent, and come back with them.
-use mathlib.Core.List.{List, ◌++◌, append_assoc}
-use mathlib.Core.Path.{◌≡◌, refl, sym, ap, ◌∙◌}
-use Prim.Native.Nat.{ℕ, zero, suc, ◌+◌, ◌-◌, ◌≤◌}
-use native.Mathlib.Omega.{arith}
+use Rattle.std.proofs.Common.{List, ◌++◌, append_assoc, ◌≡◌, refl, sym, ap, ◌∙◌, ℕ, zero, suc, ◌+◌, ◌-◌, ◌≤◌, arith, length, take, drop}
 use borrow.Rule.Slice.PartMut.{put_mid, Post-is, mid_len}
-use lib.ListN.{length, take, drop}
 use Rattle.rows.specs.Rows.{Row}
 use Rattle.machine.specs.Writes.{bytes_from}
 use Rattle.writing.specs.Writing.{written_at, Wrote}

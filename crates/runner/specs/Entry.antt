@@ -1,13 +1,11 @@
--- The counter runner's entry (document 02, change 1): a label program is loaded and run on a keyed order. What is refused changes nothing.
-use Rattle.std.specs.Prelude.{List, ◌≡◌, ℕ, length}
+-- The counter runner's entry: a label program is loaded and run on a keyed order. What is refused changes nothing.
+use Rattle.std.specs.Prelude.{Result, Ok, Err, List, ◌≡◌, ℕ, length}
 use Rattle.answers.specs.Numbers.{error_number}
 use Rattle.answers.specs.declared.error.ExecutorError.TheVariants.{OutputFull}
 use Rattle.rows.specs.Rows.{Row, row}
 use Rattle.loader.specs.Loading.{Program}
-use Rattle.checks.specs.declared.refusal.Checked.{Checked}
-use Rattle.checks.specs.declared.refusal.Checked.TheVariants as checked
+use Rattle.checks.specs.declared.refusal.Refusal.{Refusal}
 use Rattle.executor.specs.Entries.{creation_checked, created_row, Answered, run_answered, run_answer}
-use Rattle.executor.specs.declared.RunAnswer.TheVariants as answer
 use Rattle.writing.specs.Written.{written}
 use Rattle.runner.specs.Serving.{Served, served_of}
 use Rattle.runner.specs.declared.Printed.{Printed}
@@ -27,12 +25,12 @@ left_by x output =
     record {
       row = x.finished.row;
       output = written x.output output;
-      printed = record { answer = answer.Ran x.finished.ran; written = length x.output };
+      printed = record { answer = Ok x.finished.ran; written = length x.output };
     }
 
-unfoldable pub served_entry : Checked → ℕ → List ℕ → Row → List ℕ → Left
-served_entry checked.Accepted step input r output = left_by (served_of step input (length output) 0 r) output
-served_entry (checked.Refused f) step input r output = record { row = r; output = output; printed = record { answer = answer.Refused f; written = 0 } }
+unfoldable pub served_entry : Result (Unit {0}) Refusal → ℕ → List ℕ → Row → List ℕ → Left
+served_entry (Ok t) step input r output = left_by (served_of step input (length output) 0 r) output
+served_entry (Err f) step input r output = record { row = r; output = output; printed = record { answer = Err f; written = 0 } }
 
 -- 1, 4, 5, then 6 and 7, as for a new executor; then one run of it, with the order's words as its tape
 unfoldable pub run_program : ℕ → ℕ → ℕ → Program → List ℕ → Row → List ℕ → Left
@@ -46,6 +44,6 @@ one_run memory log step p input r =
     let c = creation_checked memory log p r in
     run_answered c step input (created_row c p r)
 
--- unless the answer is 71, row, answer and input words taken are those of one run of a new executor in document 01, limit word included
+-- unless the answer is 71, row, answer and input words taken are those of one run of a new executor, limit word included
 abbrev pub OneRun : ℕ → ℕ → ℕ → Program → List ℕ → Row → Answered → Type 0
 OneRun memory log step p input r x = ((run_answer x.answer).number ≡ error_number OutputFull → ⊥) → x ≡ one_run memory log step p input r

@@ -1,4 +1,4 @@
--- A run whose write calls go to an output of so much room (document 02, change 1).
+-- A run whose write calls go to an output of so much room.
 use Rattle.std.specs.Prelude.{cond, List, [], ◌++◌, ℕ, zero, suc, ◌+◌, ◌-◌, leb}
 use Rattle.answers.specs.declared.error.ExecutorError.TheVariants.{OutputFull}
 use Rattle.answers.specs.declared.outcome.Outcome.TheVariants.{Failed}

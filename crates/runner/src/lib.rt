@@ -16,8 +16,7 @@ ghost use Rattle.runner.specs.Entry.{left, run_program, OneRun};
 use answers::error::ExecutorError;
 use answers::outcome::{Outcome, Progress};
 use calls::step::Step;
-use checks::refusal::Checked;
-use executor::RunAnswer;
+use checks::refusal::Refusal;
 use known::nothing_known;
 use machine::run::{Ran, run_to_write};
 use machine::write::write_to;
@@ -25,7 +24,7 @@ use machine::write::write_to;
 // What the run of a label program answers, and how many bytes of the output it wrote.
 #[derive(Clone, Copy)]
 pub struct Printed {
-    pub answer: RunAnswer,
+    pub answer: Result<Ran, Refusal>,
     pub written: usize,
 }
 
@@ -126,7 +125,7 @@ pub fn run_program(
         input.now (row words.old marks.old) (answered words.new marks.new result.answer) }
     ensures written_in_bounds { result.written ≤ length output.old }
 {
-    let checked = executor::new_executor(
+    let made = executor::new_executor(
         words,
         marks,
         memory,
@@ -136,17 +135,16 @@ pub fn run_program(
         data_address,
         data,
     );
-    match checked {
-        Checked::Accepted => {
+    match made {
+        Ok(()) => {
             let served = serve(words, marks, step, input, output);
-            let ran = served.ran;
             Printed {
-                answer: RunAnswer::Ran(ran),
+                answer: Ok(served.ran),
                 written: served.written,
             }
         }
-        Checked::Refused(refusal) => Printed {
-            answer: RunAnswer::Refused(refusal),
+        Err(refusal) => Printed {
+            answer: Err(refusal),
             written: 0,
         },
     }
