@@ -1,9 +1,8 @@
 -- What crosses and comes back is the same: the options that a host is given as the defaults are what it hands in, and of an answer nothing is lost but a row that is 0.
-use mathlib.Core.Path.{◌≡◌, refl}
-use Prim.Native.Nat.{ℕ}
+use Rattle.std.proofs.Common.{◌≡◌, refl, ℕ, Result, Ok, Err}
 use Rattle.executor.specs.Entries.{run_answer}
-use Rattle.executor.specs.declared.RunAnswer.{RunAnswer}
-use Rattle.executor.specs.declared.RunAnswer.TheVariants.{Refused, Ran}
+use Rattle.checks.specs.declared.refusal.Refusal.{Refusal}
+use Rattle.machine.specs.declared.run.Ran.{Ran}
 use Rattle.means.specs.declared.MeanType.{MeanType}
 use Rattle.means.specs.declared.MeanType.TheVariants.{Arithmetic, Harmonic}
 use Rattle.options.specs.Means.{mean_number, mean_numbered}
@@ -18,6 +17,6 @@ mean_back Harmonic = refl
 pub options_back : (o : RaritySimulationOptions) → options_of (flat_of o) ≡ o
 options_back o = rw mean_back
 
-pub answer_back : (a : RunAnswer) (written : ℕ) → answer_in (flat_printed (run_answer a) written) ≡ run_answer a
-answer_back (Refused f) written = refl
-answer_back (Ran x) written = refl
+pub answer_back : (a : Result Ran Refusal) (written : ℕ) → answer_in (flat_printed (run_answer a) written) ≡ run_answer a
+answer_back (Err f) written = refl
+answer_back (Ok x) written = refl

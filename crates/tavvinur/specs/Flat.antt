@@ -1,15 +1,14 @@
 -- What crosses to C and Rust: numbers and flat structs, each equal to what the entries' definitions say.
-use Rattle.std.specs.Prelude.{cond, List, ◌≡◌, ℕ, leb, Float}
+use Rattle.std.specs.Prelude.{Result, Ok, cond, List, ◌≡◌, ℕ, leb, Float}
 use Rattle.answers.specs.Answers.{refused_answer}
 use Rattle.answers.specs.declared.answer.Answer.{Answer}
-use Rattle.checks.specs.declared.refusal.Checked.TheVariants.{Accepted}
 use Rattle.executor.specs.Entries as run
 use Rattle.rows.specs.Rows.{Row, row}
 use Rattle.loader.specs.Loading.{Program}
 use Rattle.options.specs.Means.{mean_number, mean_numbered}
 use Rattle.options.specs.declared.RaritySimulationOptions.{RaritySimulationOptions}
 use Rattle.scoring.specs.Entry as scoring
-use Rattle.scoring.specs.declared.ScoringAnswer.{ScoringAnswer}
+use Rattle.scoring.specs.declared.ScoringError.{ScoringError}
 use Rattle.search.specs.Entry as search
 use Rattle.tavvinur.specs.declared.Options.{Options}
 
@@ -77,7 +76,7 @@ pub record Scores : Type 0 where
 abbrev pub scores_with : List Float → ℕ → Scores
 scores_with scores number = record { scores = scores; number = number }
 
-abbrev pub scores_by : ScoringAnswer → List Float → List Float → Scores
+abbrev pub scores_by : Result (Unit {0}) ScoringError → List Float → List Float → Scores
 scores_by a computed lent = scores_with (scoring.scores_left a computed lent) (scoring.scoring_number a)
 
 abbrev pub score_left : ℕ → ℕ → ℕ → ℕ → List ℕ → List ℕ → List Float → Scores
@@ -88,4 +87,4 @@ score_left memory log rows mean words marks scores = let computed = scoring.stor
 
 -- of a call that is not refused: its number is 0, and 31 is never given
 abbrev pub AlwaysScored : ℕ → ℕ → ℕ → List ℕ → List ℕ → List Float → ℕ → Type 0
-AlwaysScored memory log rows words marks scores number = scoring.scoring_checked memory log rows words marks scores ≡ Accepted → number ≡ 0
+AlwaysScored memory log rows words marks scores number = scoring.scoring_checked memory log rows words marks scores ≡ Ok tt → number ≡ 0

@@ -29,11 +29,11 @@ left_by_runner x = printed_left x.row.words x.row.marks x.output (flat_printed (
 abbrev pub program_left : ℕ → ℕ → ℕ → Program → List ℕ → List ℕ → List ℕ → List ℕ → Left
 program_left memory log step p input words marks output = left_by_runner (counter.run_program memory log step p input (row words marks) output)
 
--- document 01's answer, whose row is 0
+-- the answer of a run, whose row is 0
 abbrev pub answer_in : Printed → Answer
 answer_in p = record { number = p.number; row = 0; pc = p.pc; value = p.value; used = p.used }
 
--- unless the number is 71, words, marks and answer are those of one run of a new executor in document 01
+-- unless the number is 71, words, marks and answer are those of one run of a new executor
 abbrev pub OneRun : ℕ → ℕ → ℕ → Program → List ℕ → List ℕ → List ℕ → List ℕ → List ℕ → Printed → Type 0
 OneRun memory log step p input words marks words' marks' printed =
     (printed.number ≡ error_number OutputFull → ⊥) → left words' marks' (answer_in printed) ≡ left_by_run (counter.one_run memory log step p input (row words marks))

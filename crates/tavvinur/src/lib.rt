@@ -15,7 +15,11 @@ ghost use Rattle.tavvinur.specs.Flat.{left, creation_left, run_left, search_left
 ghost use Rattle.tavvinur.specs.Printing.{printed_left, program_left, OneRun};
 
 use answers::answer::Answer;
+use checks::refusal::checked_number;
+use executor::run_answer;
 use options::{RaritySimulationOptions, mean_number, mean_numbered};
+use scoring::scoring_number;
+use search::answer::search_answer;
 
 // The options of a search; `mean` is 0 for arithmetic, 1 for harmonic.
 #[repr(C)]
@@ -105,7 +109,7 @@ pub extern "C" fn tavvinur_new_executor(
         data_address,
         data,
     );
-    checked.number()
+    checked_number(checked)
 }
 
 // Runs a lent row for at most `step` instructions more, on a lent tape from its front.
@@ -120,8 +124,7 @@ pub extern "C" fn tavvinur_run(
 ) -> Answer
     ensures { left words.new marks.new result ≡ run_left memory log step tape.now words.old marks.old }
 {
-    let ran = executor::run(words, marks, memory, log, step, tape);
-    ran.answer()
+    run_answer(executor::run(words, marks, memory, log, step, tape))
 }
 
 // Loads a label program into a lent row and runs it for at most `step` instructions, one word of the keyed order to each draw. What it writes
@@ -160,8 +163,7 @@ pub extern "C" fn tavvinur_run_program(
         input,
         output,
     );
-    let answered = printed.answer;
-    let answer = answered.answer();
+    let answer = run_answer(printed.answer);
     Printed {
         number: answer.number,
         pc: answer.pc,
@@ -200,7 +202,7 @@ pub extern "C" fn tavvinur_score(
         mean_numbered(mean as u64),
         scores,
     );
-    answer.number()
+    scoring_number(answer)
 }
 
 // Searches a program for bugs in a lent store, round after round.
@@ -237,5 +239,5 @@ pub extern "C" fn tavvinur_search(
         data,
         tape,
     );
-    searched.answer()
+    search_answer(searched)
 }
