@@ -1,4 +1,5 @@
 -- The store of an accepted sheet: its lengths, and its fronts of two arrays of zeros.
+use Rattle.std.specs.Prelude.{Result}
 use Rattle.std.proofs.Common.{◌≡◌, ap, ◌∙◌, List, ℕ, ◌*◌, ◌/◌, ◌≤◌, mul-le-mul, arith, length, Ok}
 use Rattle.laws.proofs.Fronts.{front_alike}
 use Rattle.rows.specs.Rows.{row_words, row_marks}
@@ -6,7 +7,8 @@ use Rattle.store.specs.Store.{rows_of}
 use Rattle.store.specs.declared.layout.Layout.{Layout}
 use Rattle.rounds.specs.Calls.{layout_of}
 use Rattle.search.specs.Entry.{Left, left, search_entry}
-use Rattle.search.specs.declared.answer.SearchAnswer.{SearchAnswer}
+use Rattle.rounds.specs.declared.call.Ended.{Ended}
+use Rattle.checks.specs.declared.refusal.Refusal.{Refusal}
 use Rattle.sheet.specs.Sheets.{parsed, bench_limits, image_of, tape_of}
 use Rattle.sheet.specs.declared.parse.Sheet.{Sheet}
 use Rattle.sheet.proofs.Accepting.{accepted_fitting}
@@ -59,7 +61,7 @@ module _ (s : List ℕ) (h : Sheet) (accepted : parsed bench_limits s ≡ Ok h) 
     marks_lent marks k = k ∙ lent_length (store.rows * store.marks) most_marks marks_few
 
     -- an answer and a store that the search left are what is printed
-    pub printed_search : (words marks : List ℕ) (a : SearchAnswer)
+    pub printed_search : (words marks : List ℕ) (a : Result Ended Refusal)
         → left words marks a
         ≡ search_entry h.options h.log (image_of s h) (tape_of s h) (lent (store.rows * store.words) most_words)
         (lent (store.rows * store.marks) most_marks)

@@ -1,12 +1,13 @@
 -- A stepping stone between contracts: a text that was printed, the words of a store, and the inputs that are told from them.
-use Rattle.std.specs.Prelude.{◌≡◌, List, ℕ, ◌+◌, ◌*◌, ◌≤◌, length}
+use Rattle.std.specs.Prelude.{◌≡◌, Result, List, ℕ, ◌+◌, ◌*◌, ◌≤◌, length}
 use Rattle.rows.specs.Rows.{Row, header}
 use Rattle.store.specs.Store.{rows_of, nth_row}
 use Rattle.store.specs.declared.layout.Layout.{Layout}
 use Rattle.writing.specs.Written.{written}
 use Rattle.lines.specs.Lines.{lines}
 use Rattle.search.specs.Entry.{search_answer}
-use Rattle.search.specs.declared.answer.SearchAnswer.{SearchAnswer}
+use Rattle.rounds.specs.declared.call.Ended.{Ended}
+use Rattle.checks.specs.declared.refusal.Refusal.{Refusal}
 use Rattle.sheet.specs.Sheets.{bench_limits}
 use Rattle.report.specs.Reports.{most_printed, log_of, told_inputs}
 
@@ -31,5 +32,5 @@ pub record Told (s : Layout) (words : List ℕ) (inputs : List Row → List ℕ)
 abbrev pub log_at : ℕ → List Row → List ℕ
 log_at i rows = log_of (nth_row rows i)
 
-abbrev pub answer_lines : SearchAnswer → List Row → List ℕ
+abbrev pub answer_lines : Result Ended Refusal → List Row → List ℕ
 answer_lines a rows = lines (search_answer a) (told_inputs a rows)

@@ -7,8 +7,8 @@ use Rattle.rounds.specs.Calls.{layout_of}
 use Rattle.answers.specs.declared.finding.Finding.{Finding}
 use Rattle.answers.specs.declared.finding.Finding.TheVariants as finding
 use Rattle.search.specs.Entry.{Left, search_entry, search_answer}
-use Rattle.search.specs.declared.answer.SearchAnswer.{SearchAnswer}
-use Rattle.search.specs.declared.answer.SearchAnswer.TheVariants.{Refused, Searched}
+use Rattle.rounds.specs.declared.call.Ended.{Ended}
+use Rattle.checks.specs.declared.refusal.Refusal.{Refusal}
 use Rattle.lines.specs.Lines.{lines}
 use Rattle.sheet.specs.Sheets.{parsed, bench_limits, sheet_number, image_of, tape_of}
 use Rattle.sheet.specs.declared.parse.Sheet.{Sheet}
@@ -34,9 +34,9 @@ inputs_of (finding.Failed error row pc) rows = []
 inputs_of finding.TapeShort rows = []
 inputs_of finding.ScoresUnordered rows = []
 
-abbrev pub told_inputs : SearchAnswer → List Row → List ℕ
-told_inputs (Refused f) rows = []
-told_inputs (Searched f used) rows = inputs_of f rows
+abbrev pub told_inputs : Result Ended Refusal → List Row → List ℕ
+told_inputs (Err f) rows = []
+told_inputs (Ok e) rows = inputs_of e.finding rows
 
 -- the search that a sheet asks for, on a store of zeros of just its lengths
 unfoldable pub sheet_left : List ℕ → Sheet → Left

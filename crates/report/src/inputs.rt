@@ -4,8 +4,9 @@ ghost use Rattle.report.specs.Reports.{told_inputs};
 ghost use Rattle.report.specs.Printing.{Lent, Told, log_at};
 
 use answers::finding::Finding;
+use checks::refusal::Refusal;
+use rounds::call::Ended;
 use rows::row::{HEADER, LOG_COUNT};
-use search::answer::SearchAnswer;
 use store::layout::Layout;
 
 // The words of a store whose rows have a header and at most as many log words as a sheet may ask for.
@@ -29,13 +30,13 @@ impl<'a> StoreWords<'a> {
     }
 
     // The inputs that an answer tells.
-    pub(crate) fn told(self, answer: SearchAnswer) -> &'a [u64]
+    pub(crate) fn told(self, answer: Result<Ended, Refusal>) -> &'a [u64]
         ensures { Told self.entry.store self.entry.words.now (told_inputs answer) result.now }
     {
-        let SearchAnswer::Searched { finding, .. } = answer else {
+        let Ok(ended) = answer else {
             return &[];
         };
-        let Finding::Found { row, .. } = finding else {
+        let Finding::Found { row, .. } = ended.finding else {
             return &[];
         };
         if row < self.store.rows {

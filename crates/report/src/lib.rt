@@ -15,10 +15,12 @@ mod inputs;
 mod searching;
 
 use answers::answer::Answer;
+use checks::refusal::Refusal;
 use inputs::StoreWords;
 use lines::write_lines;
+use rounds::call::Ended;
 use rows::row::{HEADER, REGISTERS};
-use search::answer::SearchAnswer;
+use search::answer::search_answer;
 use searching::search_sheet;
 use sheet::limits::{Limits, MOST_LOG, MOST_MEMORY, MOST_SHEET, MOST_STATES};
 use sheet::parse::{Sheet, SheetError, parse};
@@ -45,11 +47,15 @@ fn report_refusal(error: SheetError, out: &mut [u8; MOST_PRINTED]) -> usize
 }
 
 // Prints an answer, and the inputs that it tells from the words of its store.
-fn report_answer(answer: SearchAnswer, words: StoreWords, out: &mut [u8; MOST_PRINTED]) -> usize
+fn report_answer(
+    answer: Result<Ended, Refusal>,
+    words: StoreWords,
+    out: &mut [u8; MOST_PRINTED],
+) -> usize
     ensures { let store = words.entry.store in (marks : List ℕ) → length marks ≡ store.rows * store.marks
         → Printed (answer_lines answer (rows_of store words.entry.words.now marks)) out.old out.new result }
 {
-    write_lines(answer.answer(), words.told(answer), out)
+    write_lines(search_answer(answer), words.told(answer), out)
 }
 
 // The search, on a store of just the lengths that the sheet asks for.

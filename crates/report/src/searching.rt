@@ -4,7 +4,8 @@ ghost use Rattle.search.specs.Entry.{left, search_entry};
 ghost use Rattle.sheet.specs.Sheets.{parsed, bench_limits, image_of, tape_of};
 ghost use Rattle.sheet.specs.Parts.{PartsWithin};
 
-use search::answer::SearchAnswer;
+use checks::refusal::Refusal;
+use rounds::call::Ended;
 use search::search_for_bugs;
 use sheet::limits::MOST_SHEET;
 use sheet::parse::Sheet;
@@ -20,7 +21,7 @@ fn search_with(
     tape: &[u64],
     words: &mut [u64],
     marks: &mut [u8],
-) -> SearchAnswer
+) -> Result<Ended, Refusal>
     requires { PartsWithin (length sheet.now) asked }
     ensures { left words.new marks.new result
         ≡ search_entry asked.options asked.log (image_of sheet.now asked) tape.now words.old marks.old }
@@ -46,7 +47,7 @@ pub(crate) fn search_sheet(
     asked: Sheet,
     words: &mut [u64],
     marks: &mut [u8],
-) -> SearchAnswer
+) -> Result<Ended, Refusal>
     requires { parsed bench_limits sheet.now ≡ Ok asked }
     ensures { left words.new marks.new result
         ≡ search_entry asked.options asked.log (image_of sheet.now asked) (tape_of sheet.now asked)

@@ -17,7 +17,7 @@ use answers::error::ExecutorError;
 use answers::outcome::{Outcome, Progress};
 use calls::step::Step;
 use checks::refusal::Refusal;
-use known::nothing_known;
+use known::Known;
 use machine::run::{Ran, run_to_write};
 use machine::write::write_to;
 
@@ -75,7 +75,7 @@ fn serve(words: &mut [u64], marks: &mut [u8], step: u32, input: &[u64], output: 
         (served_of step input.now (length output.old) 0 (row words.old marks.old)).output
         result.written output.new }
 {
-    let mut known = nothing_known();
+    let mut known = Known::new();
     let mut more = step;
     let mut used = 0;
     let mut at = 0;

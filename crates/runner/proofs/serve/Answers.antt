@@ -4,7 +4,7 @@ use Rattle.runner.proofs.serve.Goals as goal
 
 pub loop-buffer-init : goal.loop-buffer-init
 loop-buffer-init c =
-    (search rules, search rules, search rules, search rules, search rules, begins _ _ _ _, c.nothing_known-known.ensures)
+    (search rules, search rules, search rules, search rules, search rules, begins _ _ _ _)
 
 pub returns-in-Running-clause-ran_after : goal.returns-in-Running-clause-ran_after
 returns-in-Running-clause-ran_after c =
@@ -41,7 +41,6 @@ loop-buffer-preserved c =
       search rules,
       omega (arith, limit, l.invariant.4),
       turned l.invariant.5 l.invariant.0 c.run_to_write-paused.ensures.result_after c.in-Write.is c.print-at.ensures.row_after c.print-at.ensures.wrote,
-      c.run_to_write-paused.ensures.known_after,
     )
 
 pub returns-in-Ended-clause-ran_after : goal.returns-in-Ended-clause-ran_after
