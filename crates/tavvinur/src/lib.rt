@@ -49,17 +49,35 @@ const MOST_MEAN: u32 = 1;
 
 const UNKNOWN_MEAN: u64 = 53;
 
-fn options_of(options: Options) -> RaritySimulationOptions
-    ensures { result ≡ options_of options }
-{
-    RaritySimulationOptions {
-        memory_size: options.memory_size,
-        amount_of_states: options.amount_of_states,
-        step_size: options.step_size,
-        selection: options.selection,
-        iterations: options.iterations,
-        copy_init_ratio: options.copy_init_ratio,
-        mean: mean_numbered(options.mean as u64),
+impl From<Options> for RaritySimulationOptions {
+    ghost from_gives = { λ flat options. options ≡ options_of flat };
+
+    fn from(options: Options) -> RaritySimulationOptions {
+        RaritySimulationOptions {
+            memory_size: options.memory_size,
+            amount_of_states: options.amount_of_states,
+            step_size: options.step_size,
+            selection: options.selection,
+            iterations: options.iterations,
+            copy_init_ratio: options.copy_init_ratio,
+            mean: mean_numbered(options.mean as u64),
+        }
+    }
+}
+
+impl From<RaritySimulationOptions> for Options {
+    ghost from_gives = { λ options flat. flat ≡ flat_of options };
+
+    fn from(options: RaritySimulationOptions) -> Options {
+        Options {
+            memory_size: options.memory_size,
+            amount_of_states: options.amount_of_states,
+            step_size: options.step_size,
+            selection: options.selection,
+            iterations: options.iterations,
+            mean: mean_number(options.mean) as u32,
+            copy_init_ratio: options.copy_init_ratio,
+        }
     }
 }
 
@@ -68,17 +86,7 @@ fn options_of(options: Options) -> RaritySimulationOptions
 pub extern "C" fn tavvinur_default_options() -> Options
     ensures { result ≡ flat_of default_options }
 {
-    let options = RaritySimulationOptions::default();
-    let mean = options.mean;
-    Options {
-        memory_size: options.memory_size,
-        amount_of_states: options.amount_of_states,
-        step_size: options.step_size,
-        selection: options.selection,
-        iterations: options.iterations,
-        mean: mean_number(mean) as u32,
-        copy_init_ratio: options.copy_init_ratio,
-    }
+    Options::from(RaritySimulationOptions::default())
 }
 
 // Makes a new executor of a program in a lent row; 0, or the number that refuses the call.
@@ -231,7 +239,7 @@ pub extern "C" fn tavvinur_search(
     let searched = search::search_for_bugs(
         words,
         marks,
-        options_of(options),
+        RaritySimulationOptions::from(options),
         log,
         code_address,
         code,
