@@ -1,8 +1,5 @@
-use Rattle.selection.proofs.Placing.{own_fewer, inverse_own}
+use Rattle.selection.proofs.Placing.{inverse_own}
 use Rattle.selection.proofs.places.Places.new.Goals as goal
 
 pub invariant_of-result : goal.invariant_of-result
 invariant_of-result c = record { inverse = inverse_own c.requires c.own_numbers-own.ensures c.own_numbers-own.ensures }
-
-pub returns-clause-own : goal.returns-clause-own
-returns-clause-own c = own_fewer c.own_numbers-own.ensures c.requires
