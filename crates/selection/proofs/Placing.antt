@@ -39,14 +39,26 @@ module _ {A : Type 0} (l : List A) (a b : ℕ) (x y d : A) where
   at_other : (k : ℕ) → (k ≡ b → ⊥) → (k ≡ a → ⊥) → get_or both k d ≡ get_or l k d
   at_other k n m = get_or-set_other (set l a x) b k y d n ∙ get_or-set_other l a k x d m
 
+-- every number at its own place
+pub own_none : (places : List ℕ) → Own 0 places
+own_none places = record { room = omega arith; own = λ k h. absurd (not-suc-le-zero h) }
+
+pub own_turn : (places : List ℕ) (place : ℕ) → place < length places → Own place places → Own (place + 1) (set places place place)
+own_turn places place h o =
+    record {
+      room = simp length-set (omega arith);
+      own =
+          below_more (λ (k : ℕ). get_or (set places place place) k 0 ≡ k) place
+          (λ k l. get_or-set_other places place k place 0 (less_not l) ∙ o.own k l)
+          (get_or-set_same places place place 0 h);
+    }
+
 pub own_fewer : {n m : ℕ} {places : List ℕ} → Own m places → n ≤ m → Own n places
 own_fewer o h = record { room = omega (arith, o.room); own = λ k l. o.own k (lt_of_lt_of_le l h) }
 
--- every row at the place of its own number
-pub inverse_own : {n m : ℕ} {place_of row_at : List ℕ} → n ≤ m → Own m place_of → Own m row_at → Inverse n place_of row_at
-inverse_own {n} {m} {place_of} {row_at} l p r =
-    let a : Own n place_of = own_fewer p l in
-    let b : Own n row_at = own_fewer r l in
+-- then each list is the other's inverse
+pub inverse_own : {n : ℕ} {place_of row_at : List ℕ} → Own n place_of → Own n row_at → Inverse n place_of row_at
+inverse_own {n} {place_of} {row_at} a b =
     record {
       place_of_all = a.room;
       row_at_all = b.room;

@@ -6,17 +6,9 @@ ghost use Rattle.rounds.specs.Rounds.{stored};
 ghost use Rattle.selection.specs.Places.{Numbers, Own, Inverse, rows_numbered};
 
 use rows::limits::MOST_ROWS;
-use std::array;
 use store::layout::Layout;
 use store::swap::swap_rows;
 use store::zero::zero_rows;
-
-// Every number at its own place.
-fn own_numbers() -> [usize; MOST_ROWS]
-    ensures { Own most_rows result }
-{
-    array::from_fn(|place| place)
-}
 
 // Where each of some rows is, and which row is at each place.
 #[derive(Drop)]
@@ -28,18 +20,23 @@ struct Places {
 }
 
 impl Places {
-    // Every row at the place of its own number.
+    // Every row at the place of its own number. Filled in place, since a copy would take 32 KiB more of the stack.
     fn new(rows: usize) -> Places
         requires { rows ≤ most_rows }
         ensures rows { result.rows ≡ rows }
         ensures own { Own rows result.row_at_place }
     {
-        let own = own_numbers();
-        Places {
-            rows,
-            place_of_row: own,
-            row_at_place: own,
+        let mut places = Places {
+            rows: 0,
+            place_of_row: [0; MOST_ROWS],
+            row_at_place: [0; MOST_ROWS],
+        };
+        for place in 0..rows {
+            places.place_of_row[place] = place;
+            places.row_at_place[place] = place;
         }
+        places.rows = rows;
+        places
     }
 
     // Row `incoming` comes to `place`, and the row that is there goes where `incoming` was, which is answered.

@@ -1,7 +1,7 @@
 -- What the moves do: parts of one list copied or exchanged, which the rows then are too, and rows that become zero.
-use Rattle.std.proofs.Common.{◌≡◌, ℕ, suc, ◌+◌, ◌-◌, ◌*◌, ◌<◌, ◌≤◌, List, [], ◌∷◌, ◌++◌, length, set, take, drop, replicate, sym, ap, ◌∙◌, subst, append_assoc, append-nil, add-one, arith, length-append, length-drop, take-append-drop, drop_of_length-le, length-take-le, drop-cons, drop-drop, set-set, take_at, drop_at}
-use Rattle.std.proofs.Math.ListN.{length-replicate, replicate-append-replicate}
-use Rattle.std.proofs.Math.Seq.{paste, length-paste, set-get_or, set_at, drop-append-add}
+use Rattle.std.proofs.Common.{refl, get_or, subst, get_or-drop, get_or-take, length-set, ◌≡◌, ℕ, suc, ◌+◌, ◌-◌, ◌*◌, ◌<◌, ◌≤◌, List, [], ◌∷◌, ◌++◌, length, set, take, drop, replicate, sym, ap, ◌∙◌, append_assoc, append-nil, add-one, arith, length-append, length-drop, take-append-drop, drop_of_length-le, length-take-le, drop-cons, drop-drop, set-set, take_at, drop_at}
+use Rattle.std.proofs.Math.ListN.{get_or-append, length-replicate, replicate-append-replicate}
+use Rattle.std.proofs.Math.Seq.{paste-zero, paste-suc, paste, length-paste, set-get_or, set_at, drop-append-add}
 use Rattle.std.proofs.lemmas.List.{take-append-le, drop-append-le}
 use borrow.Rule.Slice.PartMut.{put_mid}
 use Rattle.rows.specs.Rows.{Row, row}
@@ -10,16 +10,42 @@ use Rattle.store.specs.Store.{cut, rows_of, nth_row, zero_row, row_copied, rows_
 use Rattle.store.specs.Parts.{part_copied, parts_swapped}
 use Rattle.store.proofs.Rows.{row_end, row_get, row_put, part_length}
 
--- ---- parts of one list that is lent as its first elements, `front`, and the others, `back`
+-- ---- elements copied to a later place, the first i of them
 
--- a part of `front` copied over the start of `back`
-pub part_over : {A : Type 0} (front back : List A) (from to count : ℕ) → length front ≡ to → from + count ≤ to → count ≤ length back
-    → front ++ (take count (drop from front) ++ drop count back) ≡ part_copied from to count (front ++ back)
-part_over front back from to count e h k =
-    let lf : from ≤ length front = omega arith in
-    let ld : count ≤ length (drop from front) = omega (arith, length-drop from front) in
-    let rest : drop (to + count) (front ++ back) ≡ drop count back = rw (← e) (drop-append-add front back count) in
-    rw (take_at front back to e, drop-append-le from front back lf, take-append-le count (drop from front) back ld, rest) (simp append_assoc)
+pub record Copied {A : Type 0} (from to i : ℕ) (before now : List A) : Type 0 where
+  pub same : length now ≡ length before
+  pub copied : now ≡ part_copied from to i before
+
+module _ {A : Type 0} (from to : ℕ) (before : List A) where
+  pub copy_none : Copied from to 0 before before
+  copy_none = record { same = refl; copied = paste-zero before to (drop from before) }
+
+  -- what stands before the place is as it was
+  still : (i k : ℕ) (z : A) → k < to → to ≤ length before → get_or (part_copied from to i before) k z ≡ get_or before k z
+  still i k z h l =
+      let t : k < length (take to before) = subst (λ (n : ℕ). k < n) (sym (length-take-le to before l)) h in
+      get_or-append (take to before ++ take i (drop from before)) (drop (to + i) before) z k
+      (omega (arith, length-append (take to before) (take i (drop from before))))
+      ∙ get_or-append (take to before) (take i (drop from before)) z k t
+      ∙ get_or-take to before k z h
+
+  pub copy_on : (count i : ℕ) (now : List A) (x : A) → from + count ≤ to → to + count ≤ length before → i < count → x ≡ get_or now (from + i) x
+      → Copied from to i before now → Copied from to (i + 1) before (set now (to + i) x)
+  copy_on count i now x a l h e c =
+      record {
+        same = simp length-set c.same;
+        copied =
+            ap (λ (k : List A). set k (to + i) x) c.copied
+            ∙ ap (λ (z : A). set (part_copied from to i before) (to + i) z)
+            (e
+            ∙ ap (λ (k : List A). get_or k (from + i) x) c.copied
+            ∙ still i (from + i) x (omega arith) (omega arith)
+            ∙ sym (get_or-drop from before i x))
+            ∙ paste-suc before to (drop from before) i x (omega arith) (omega (arith, length-drop from before))
+            ∙ ap (λ (k : ℕ). part_copied from to k before) (sym (add-one i));
+      }
+
+-- ---- two parts that change places, of a list that is lent as its first elements, `front`, and the others, `back`
 
 -- a part of `front` and the start of `back` that change places
 pub parts_trade : {A : Type 0} (front back : List A) (a b count : ℕ) → length front ≡ b → a + count ≤ b → count ≤ length back

@@ -5,15 +5,16 @@ ghost use Rattle.store.specs.Parts.{part_copied};
 
 use crate::layout::Layout;
 
-// `count` elements from place `from` on are copied to place `to` on. In two parts, which the compiler makes one memmove: the
-// slice's own copy_within goes backwards, element by element, and takes a fifth longer.
+// `count` elements from place `from` on are copied to place `to` on. A loop, which the compiler makes vector code: the slice's
+// own copy_from_slice comes to a memmove, and a host need have no more than memcpy and memset; copy_within takes a fifth longer.
 fn copy_part<T: Copy>(all: &mut [T], from: usize, to: usize, count: usize)
     requires apart { from + count ≤ to }
     requires within { to + count ≤ length all.old }
     ensures { all.new ≡ part_copied from to count all.old }
 {
-    let (front, back) = all.split_at_mut(to);
-    back[..count].copy_from_slice(&front[from..from + count]);
+    for i in 0..count {
+        all[to + i] = all[from + i];
+    }
 }
 
 // Row `from` is copied over row `to`, which is a later one.
