@@ -1,10 +1,9 @@
 // One case: a creation and the runs after it, on arrays of its own.
-ghost use Rattle.std.specs.Prelude.{◌≤◌};
-
-use crate::columns::{Columns, RUN_COLUMNS, columns_of, is_whole};
+use crate::columns::{RUN_COLUMNS, program_of};
 use crate::creation::replay_creation;
 use crate::running::replay_run;
 use replay_lists::digest::{JUNK, JUNK_MARK};
+use replay_lists::program::Program;
 use replay_lists::tally::{Judged, disagrees};
 
 // What there is to lend: rows of 2,048 bytes of memory and eight log words fit.
@@ -14,42 +13,33 @@ const MARKS: usize = 288;
 
 // The runs of a line one after the other, each on what the last one left of the row and of the tape. The first that disagrees
 // is the last.
-fn replay_runs(numbers: &[u64], columns: Columns, words: &mut [u64], marks: &mut [u8]) -> Judged
-    requires { (columns.run_count ≤ 3) × (columns.runs ≤ 1000) }
-{
-    let end = columns.runs;
-    let mut tape = columns.tape;
-    let mut run = 0;
-    if end > numbers.len() {
-        return disagrees(0);
-    }
-    while run < columns.run_count {
-        if tape > end {
-            return disagrees(run as u64);
-        }
-        let at = end + run * RUN_COLUMNS;
-        let replayed = replay_run(numbers, at, &numbers[tape..end], words, marks);
-        run += 1;
-        if !replayed.agrees {
-            return disagrees(run as u64);
-        }
-        tape = std::num::wrapping_add_usize(tape, replayed.used);
+fn replay_runs(program: &Program, words: &mut [u64], marks: &mut [u8]) -> Judged {
+    let mut used = 0usize;
+    let mut runs = 0u64;
+    for run in program.rest.chunks_exact(RUN_COLUMNS) {
+        let Some(tape) = program.tape.get(used..) else {
+            return disagrees(runs);
+        };
+        runs = runs.saturating_add(1);
+        let Some(taken) = replay_run(run, tape, words, marks) else {
+            return disagrees(runs);
+        };
+        used = used.saturating_add(taken);
     }
     Judged {
         agrees: true,
-        parts: run as u64,
+        parts: runs,
     }
 }
 
 pub(crate) fn judge(numbers: &[u64]) -> Judged {
-    let columns = columns_of(numbers);
-    if !is_whole(numbers, columns) {
+    let Some(program) = program_of(numbers) else {
         return disagrees(0);
-    }
+    };
     let mut words = [JUNK; WORDS];
     let mut marks = [JUNK_MARK; MARKS];
-    if replay_creation(numbers, columns, &mut words, &mut marks) {
-        replay_runs(numbers, columns, &mut words, &mut marks)
+    if replay_creation(numbers, &program, &mut words, &mut marks) {
+        replay_runs(&program, &mut words, &mut marks)
     } else {
         disagrees(0)
     }

@@ -1,24 +1,21 @@
 -- The numbers of a line by their columns.
-use Rattle.std.specs.Prelude.{ℕ, zero, suc, ◌+◌, ◌*◌, ◌/◌, ◌%◌, ◌^◌, Bool, cond, List, [], ◌∷◌, ◌++◌, ◌==◌, nat_le, slice_index}
+use Rattle.std.specs.Prelude.{ℕ, zero, suc, ◌+◌, ◌*◌, ◌/◌, ◌%◌, ◌^◌, cond, List, [], ◌∷◌, ◌++◌, nat_le, slice_index, Option, Some, None}
 
 -- the number in a column; 0 past the end
 abbrev pub number_at : List ℕ → ℕ → ℕ
 number_at numbers at = slice_index numbers at
 
--- a number, cut down to the most that there may be
-unfoldable pub cut_to : ℕ → ℕ → ℕ
-cut_to most n = cond (nat_le n most) n most
-
--- the length in a column, of at most so much
-abbrev pub length_at : List ℕ → ℕ → ℕ → ℕ
-length_at numbers at most = cut_to most (number_at numbers at)
-
-abbrev pub is_length : List ℕ → ℕ → ℕ → Bool
-is_length numbers at n = number_at numbers at == n
+-- the length in a column, if it is of at most so much
+unfoldable pub length_at : List ℕ → ℕ → ℕ → Option ℕ
+length_at numbers at most = let n = number_at numbers at in cond (nat_le n most) (Some n) None
 
 -- how many words so many bytes take
 abbrev pub words_for : ℕ → ℕ
 words_for bytes = (bytes + 7) / 8
+
+-- where the words of code and data end that begin at a column
+abbrev pub words_end : ℕ → ℕ → ℕ → ℕ
+words_end start code_bytes data_bytes = start + words_for code_bytes + words_for data_bytes
 
 -- byte k of a word, counted from the lowest
 abbrev pub byte_of : ℕ → ℕ → ℕ

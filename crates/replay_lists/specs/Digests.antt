@@ -1,5 +1,5 @@
 -- The digest of words and marks.
-use Rattle.std.specs.Prelude.{ℕ, ◌*◌, ◌/◌, ◌%◌, ◌^◌, List, [], ◌∷◌, bit_or, bit_xor}
+use Rattle.std.specs.Prelude.{ℕ, ◌*◌, ◌/◌, ◌%◌, ◌^◌, List, fold, bit_or, bit_xor}
 
 abbrev pub start : ℕ
 start = 0x9e37_79b9_7f4a_7c15
@@ -13,9 +13,8 @@ unfoldable pub put : ℕ → ℕ → ℕ
 put digest number = turned (bit_xor digest number) * 33 % 2 ^ 64
 
 -- with all of a list, the first first
-unfoldable pub put_all : ℕ → List ℕ → ℕ
-put_all digest [] = digest
-put_all digest (n ∷ ns) = put_all (put digest n) ns
+abbrev pub put_all : ℕ → List ℕ → ℕ
+put_all digest ns = fold put digest ns
 
 -- words first, then marks
 abbrev pub digest_of : List ℕ → List ℕ → ℕ

@@ -1,3 +1,4 @@
 pub mod Columns
+pub mod Digits
 pub mod Digests
 pub mod Tallies

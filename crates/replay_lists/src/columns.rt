@@ -1,38 +1,28 @@
 // The numbers of a line by their columns.
-ghost use Rattle.std.specs.Prelude.{◌≡◌, ◌<◌, ◌≤◌, length};
-ghost use Rattle.replay_lists.specs.Columns.{number_at, length_at, is_length, words_for, byte_of, bytes_at};
+ghost use Rattle.std.specs.Prelude.{◌≡◌, ◌<◌, ◌≤◌, length, IfSome};
+ghost use Rattle.replay_lists.specs.Columns.{number_at, length_at, words_for, byte_of, bytes_at};
 
 // The most bytes of code, and of data, that a line has.
 pub const MOST_BYTES: usize = 512;
 
-const WORD_BYTES: usize = 8;
+pub const WORD_BYTES: usize = 8;
 
 // The number in a column; 0 past the end.
 pub fn number_at(numbers: &[u64], at: usize) -> u64
     ensures { result ≡ number_at numbers.now at }
 {
-    if at < numbers.len() { numbers[at] } else { 0 }
+    numbers.get(at).copied().unwrap_or(0)
 }
 
-// The length in a column. One above the most is cut down to it, and then the line is not whole.
-#[tactic(auto, unfolding(crate::specs::Columns::cut_to))]
-pub fn length_at(numbers: &[u64], at: usize, most: usize) -> usize
-    ensures upper_bound { result ≤ most }
+// The length in a column, if it is of at most so much.
+#[tactic(auto, unfolding(crate::specs::Columns::length_at))]
+pub fn length_at(numbers: &[u64], at: usize, most: usize) -> Option<usize>
     ensures value { result ≡ length_at numbers.now at most }
+    ensures within { IfSome result (λ n. n ≤ most) }
+    ensures as_it_stands { IfSome result (λ n. n ≡ number_at numbers.now at) }
 {
-    let length = number_at(numbers, at);
-    if length <= most as u64 {
-        length as usize
-    } else {
-        most
-    }
-}
-
-// Whether a length stands in a column as it is.
-pub fn is_length(numbers: &[u64], at: usize, length: usize) -> bool
-    ensures { result ≡ is_length numbers.now at length }
-{
-    number_at(numbers, at) == length as u64
+    let length = number_at(numbers, at) as usize;
+    if length <= most { Some(length) } else { None }
 }
 
 // How many words so many bytes take.
@@ -41,7 +31,7 @@ pub fn words_of(bytes: usize) -> usize
     ensures upper_bound { result ≤ 64 }
     ensures value { result ≡ words_for bytes }
 {
-    (bytes + WORD_BYTES - 1) / WORD_BYTES
+    bytes.div_ceil(WORD_BYTES)
 }
 
 // A byte of a word, counted from the lowest.
@@ -60,13 +50,11 @@ pub fn bytes_at(numbers: &[u64], at: usize) -> [u8; MOST_BYTES]
     ensures value { result ≡ bytes_at 512 numbers.now at }
 {
     let mut bytes = [0; MOST_BYTES];
-    let mut i = 0;
-    while i < MOST_BYTES {
+    for i in 0..MOST_BYTES {
         bytes[i] = byte_of(
             number_at(numbers, at + i / WORD_BYTES),
             (i % WORD_BYTES) as u64,
         );
-        i += 1;
     }
     bytes
 }

@@ -10,54 +10,34 @@ pub const JUNK_MARK: u8 = 7;
 
 const START: u64 = 0x9e37_79b9_7f4a_7c15;
 
-// By how many bits a step turns the digest to the left; and 33 is one more than 2 to the power of SHIFT.
-const TURN: u64 = 23;
+// By how many bits a step turns the digest to the left.
+const TURN: u32 = 23;
 
-const TURNED_OUT: u64 = 41;
-
-const SHIFT: u64 = 5;
+const FACTOR: u64 = 33;
 
 // Xor, a turn, and times 33.
 #[tactic(auto, unfolding(crate::specs::Digests::put))]
 fn with(digest: u64, number: u64) -> u64
     ensures { result ≡ put digest number }
 {
-    let mixed = digest ^ number;
-    let turned = (mixed << TURN) | (mixed >> TURNED_OUT);
-    std::num::wrapping_add_u64(turned, turned << SHIFT)
+    (digest ^ number).rotate_left(TURN).wrapping_mul(FACTOR)
 }
 
-#[tactic(auto, unfolding(crate::specs::Digests::put_all))]
 fn with_words(before: u64, words: &[u64]) -> u64
     ensures { result ≡ put_all before words.now }
 {
-    let mut digest = before;
-    let mut i = 0;
-    while i < words.len() {
-        digest = with(digest, words[i]);
-        i += 1;
-    }
-    digest
-}
-
-fn wide(mark: u8) -> u64
-    ensures { result ≡ mark }
-{
-    mark as u64
+    words
+        .iter()
+        .fold(before, |digest, word| with(digest, *word))
 }
 
 // A digest with marks, or other bytes, after it.
-#[tactic(auto, unfolding(crate::specs::Digests::put_all))]
 pub fn with_marks(before: u64, marks: &[u8]) -> u64
     ensures { result ≡ put_all before marks.now }
 {
-    let mut digest = before;
-    let mut i = 0;
-    while i < marks.len() {
-        digest = with(digest, wide(marks[i]));
-        i += 1;
-    }
-    digest
+    marks
+        .iter()
+        .fold(before, |digest, mark| with(digest, u64::from(*mark)))
 }
 
 // The digest of a row or a store.

@@ -4,8 +4,11 @@
 
 pub mod columns;
 pub mod digest;
+pub mod digits;
 pub mod float;
 mod line;
+pub mod program;
 pub mod reader;
+pub mod replay;
 pub mod sizes;
 pub mod tally;

@@ -1,5 +1,5 @@
 // A list in its file, read line by line.
-ghost use Rattle.std.specs.Prelude.{◌≡◌, ◌<◌, ◌≤◌, length};
+ghost use Rattle.std.specs.Prelude.{◌≡◌, ◌<◌, ◌≤◌, length, IfSome};
 
 use crate::line::Line;
 use std::fs::File;
@@ -9,6 +9,9 @@ const PART_BYTES: usize = 4096;
 
 // Far more than any list has: where reading stops if a file has no end.
 pub const MOST_BYTES: usize = 0x1_0000_0000;
+
+// What stands before the name of a line that is wrong on purpose.
+pub const WRONG: u8 = b'!';
 
 // How many numbers a line has, none if it is broken, where the next line starts, and whether the line is wrong on purpose.
 #[derive(Clone, Copy)]
@@ -26,61 +29,54 @@ struct Part {
 }
 
 fn with_bytes(before: Line, numbers: &mut [u64], text: &[u8]) -> Part
-    ensures taken_in_bounds { result.taken ≤ length text.now }
-    ensures taken_nonzero { 0 < length text.now → 0 < result.taken }
+    ensures { result.taken ≤ length text.now }
 {
     let mut line = before;
-    let mut i = 0;
-    while i < text.len() {
-        line = line.with_byte(numbers, text[i]);
-        i += 1;
-        if line.ended {
-            return Part { line, taken: i };
+    for (i, byte) in text.iter().enumerate() {
+        line = line.with_byte(numbers, *byte);
+        if line.has_ended() {
+            return Part { line, taken: i + 1 };
         }
     }
-    Part { line, taken: i }
+    Part {
+        line,
+        taken: text.len(),
+    }
 }
 
 // The bytes of the file from a place on, as many as are there or fit. A failed read is taken for the end of the file.
 fn with_part(file: &File, at: usize, before: Line, numbers: &mut [u64]) -> Part
-    requires { at ≤ 0x1_0000_0000 }
     ensures { result.taken ≤ 4096 }
 {
     let mut text = [0; PART_BYTES];
-    let Ok(bytes) = file.read_at(&mut text, at as u64) else {
-        return with_bytes(before, numbers, &text[..0]);
-    };
+    let bytes = file.read_at(&mut text, at as u64).unwrap_or(0);
     with_bytes(before, numbers, &text[..bytes])
 }
 
-fn finished(line: Line, most: usize, next: usize) -> Read
-    ensures { (result.next ≡ next) × (result.count ≤ most) }
+// The numbers of the line from a place on, and none at the end of the file. What a file holds no contract can say.
+pub fn read_line(file: &File, from: usize, numbers: &mut [u64]) -> Option<Read>
+    ensures moves_on { IfSome result (λ r. (from < r.next) × (from < 0x1_0000_0000)) }
+    ensures count { IfSome result (λ r. r.count ≤ length numbers.old) }
 {
-    Read {
-        count: line.numbers(most),
-        next,
-        wrong: line.wrong,
+    if from >= MOST_BYTES {
+        return None;
     }
-}
-
-// The numbers of the line from a place on. At the end of the file nothing is read, and the next line starts at that place too. What a
-// file holds no contract can say.
-pub fn read_line(file: &File, from: usize, numbers: &mut [u64]) -> Read
-    requires { from ≤ 0x1_0000_0000 }
-    ensures { (from ≤ result.next) × (result.count ≤ length numbers.old) }
-{
     let mut line = Line::new();
     let mut at = from;
-    while at < MOST_BYTES {
+    while at < MOST_BYTES && !line.has_ended() {
         let part = with_part(file, at, line, numbers);
         line = part.line;
         if part.taken == 0 {
-            return finished(line, numbers.len(), at);
+            break;
         }
         at += part.taken;
-        if line.ended {
-            return finished(line, numbers.len(), at);
-        }
     }
-    finished(line, numbers.len(), at)
+    if at == from {
+        return None;
+    }
+    Some(Read {
+        count: line.numbers(numbers.len()),
+        next: at,
+        wrong: line.wrong,
+    })
 }

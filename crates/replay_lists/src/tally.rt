@@ -1,6 +1,6 @@
 // How many cases agree, and how many lines that are wrong on purpose disagree.
 ghost use Rattle.std.specs.Prelude.{◌≡◌, false};
-ghost use Rattle.replay_lists.specs.Tallies.{plus, one_if, nothing, with_case, with_wrong, with_line};
+ghost use Rattle.replay_lists.specs.Tallies.{nothing, with_case, with_wrong, with_line};
 
 // What came of a line.
 #[derive(Clone, Copy)]
@@ -10,15 +10,15 @@ pub struct Judged {
     pub parts: u64,
 }
 
-// What came of the lines so far.
+// What came of the lines so far. A count stops at the largest number, which no list reaches.
 #[derive(Clone, Copy)]
 pub struct Tally {
-    cases: u64,
-    agree: u64,
-    parts: u64,
+    pub cases: u64,
+    pub agree: u64,
+    pub parts: u64,
     // lines that are wrong on purpose, and those of them that disagree
-    wrong: u64,
-    disagree: u64,
+    pub wrong: u64,
+    pub disagree: u64,
 }
 
 // The judgement of a line that does not agree, with so many parts.
@@ -29,43 +29,6 @@ pub fn disagrees(parts: u64) -> Judged
         agrees: false,
         parts,
     }
-}
-
-// Stops at the largest number, which no list reaches.
-#[tactic(auto, unfolding(crate::specs::Tallies::plus))]
-fn sum(a: u64, b: u64) -> u64
-    ensures { result ≡ plus a b }
-{
-    if b <= u64::MAX - a { a + b } else { u64::MAX }
-}
-
-#[tactic(auto, unfolding(crate::specs::Tallies::one_if))]
-fn one_if(condition: bool) -> u64
-    ensures { result ≡ one_if condition }
-{
-    if condition { 1 } else { 0 }
-}
-
-fn print(rt: &impl Print, text: &[u8]) {
-    let _ = rt.write_all(text);
-}
-
-fn print_number(rt: &impl Print, n: u64) {
-    let _ = rt.print(n);
-}
-
-// As `3 of 4`.
-fn print_of(rt: &impl Print, some: u64, all: u64) {
-    print_number(rt, some);
-    print(rt, b" of ");
-    print_number(rt, all);
-}
-
-// Tells the number of a line that is not as it must be.
-fn print_line(rt: &impl Print, number: u64, text: &[u8]) {
-    print(rt, b"line ");
-    print_number(rt, number);
-    print(rt, text);
 }
 
 impl Tally {
@@ -82,27 +45,26 @@ impl Tally {
         }
     }
 
+    #[tactic(auto, unfolding(crate::specs::Tallies::plus, crate::specs::Tallies::one_if))]
     fn with_case(self, judged: Judged) -> Tally
         ensures { result ≡ with_case self judged }
     {
         Tally {
-            cases: sum(self.cases, 1),
-            agree: sum(self.agree, one_if(judged.agrees)),
-            parts: sum(self.parts, judged.parts),
-            wrong: self.wrong,
-            disagree: self.disagree,
+            cases: self.cases.saturating_add(1),
+            agree: self.agree.saturating_add(u64::from(judged.agrees)),
+            parts: self.parts.saturating_add(judged.parts),
+            ..self
         }
     }
 
+    #[tactic(auto, unfolding(crate::specs::Tallies::plus, crate::specs::Tallies::one_if))]
     fn with_wrong(self, judged: Judged) -> Tally
         ensures { result ≡ with_wrong self judged }
     {
         Tally {
-            cases: self.cases,
-            agree: self.agree,
-            parts: self.parts,
-            wrong: sum(self.wrong, 1),
-            disagree: sum(self.disagree, one_if(!judged.agrees)),
+            wrong: self.wrong.saturating_add(1),
+            disagree: self.disagree.saturating_add(u64::from(!judged.agrees)),
+            ..self
         }
     }
 
@@ -119,13 +81,12 @@ impl Tally {
 
     // What is told of the line that was counted last.
     fn tell(self, rt: &impl Print, agrees: bool, wrong: bool) {
-        let number = sum(self.cases, self.wrong);
-        if agrees && wrong {
-            print_line(rt, number, b" is wrong on purpose, and agrees\n");
-        }
-        if !agrees && !wrong {
-            print_line(rt, number, b" disagrees\n");
-        }
+        let number = self.cases.saturating_add(self.wrong);
+        let _ = match (agrees, wrong) {
+            (true, true) => println!(rt; "line {number} is wrong on purpose, and agrees"),
+            (false, false) => println!(rt; "line {number} disagrees"),
+            _ => Ok(()),
+        };
     }
 
     // Counts a line, and tells the number of a case that disagrees or of a line that is wrong on purpose and agrees. What is
@@ -140,16 +101,10 @@ impl Tally {
 
     // As `label programs: 3 of 3 cases agree, 7 runs; 2 of 2 lines that are wrong on purpose disagree`. No contract can say
     // what is printed; `rt ci` holds it to the program's file `stdout`.
-    pub fn print(self, rt: &impl Print, name: &[u8], parts: &[u8]) {
-        print(rt, name);
-        print(rt, b": ");
-        print_of(rt, self.agree, self.cases);
-        print(rt, b" cases agree, ");
-        print_number(rt, self.parts);
-        print(rt, b" ");
-        print(rt, parts);
-        print(rt, b"; ");
-        print_of(rt, self.disagree, self.wrong);
-        print(rt, b" lines that are wrong on purpose disagree\n");
+    pub fn print(self, rt: &impl Print, name: &str, parts: &str) {
+        let _ = println!(rt;
+            "{name}: {} of {} cases agree, {} {parts}; {} of {} lines that are wrong on purpose disagree",
+            self.agree, self.cases, self.parts, self.disagree, self.wrong
+        );
     }
 }

@@ -1,11 +1,9 @@
 // One case: an order, on arrays of its own.
-ghost use Rattle.std.specs.Prelude.{◌≤◌, length};
-
-use crate::columns::{Columns, DIGEST, OUTPUT_BYTES, SIZES, WRITTEN, columns_of, is_whole};
-use crate::order::{is_answer, is_step, print};
+use crate::columns::{DIGEST, WRITTEN, program_of};
+use crate::order::{is_answer, print, step_of};
 use replay_lists::columns::number_at;
 use replay_lists::digest::{JUNK, JUNK_MARK, digest_of, with_marks};
-use replay_lists::sizes::sizes_at;
+use replay_lists::program::Program;
 use replay_lists::tally::{Judged, disagrees};
 
 // What there is to lend: rows of 2,048 bytes of memory and eight log words fit.
@@ -19,33 +17,23 @@ const OUTPUT: usize = 128;
 const JUNK_BYTE: u8 = 0xee;
 
 // Whether the order has the line's answer and leaves what the line says of row and output.
-fn replay_order(numbers: &[u64], columns: Columns) -> bool
-    requires lengths { (columns.code_length ≤ 512) × (columns.data_length ≤ 512) × (columns.«data» ≤ 1000) }
-    requires input { (columns.input ≤ columns.end) × (columns.end ≤ length numbers.now) }
-{
+fn replay_order(numbers: &[u64], program: &Program, step: u32) -> bool {
     let mut words = [JUNK; WORDS];
     let mut marks = [JUNK_MARK; MARKS];
     let mut output = [JUNK_BYTE; OUTPUT];
-    let sizes = sizes_at(numbers, SIZES, &words, &marks);
-    let printed = print(numbers, columns, sizes, &mut words, &mut marks, &mut output);
+    let Some(printed) = print(numbers, program, step, &mut words, &mut marks, &mut output) else {
+        return false;
+    };
     let digest = with_marks(digest_of(&words, &marks), &output);
-    sizes.fit
-        && number_at(numbers, OUTPUT_BYTES) <= OUTPUT as u64
-        && is_answer(numbers, printed)
-        && digest == number_at(numbers, DIGEST)
+    is_answer(numbers, printed) && digest == number_at(numbers, DIGEST)
 }
 
 pub(crate) fn judge(numbers: &[u64]) -> Judged {
-    let columns = columns_of(numbers);
-    if columns.end > numbers.len() {
+    let (Some(program), Some(step)) = (program_of(numbers), step_of(numbers)) else {
         return disagrees(0);
-    }
-    if is_whole(numbers, columns) && is_step(numbers) {
-        Judged {
-            agrees: replay_order(numbers, columns),
-            parts: number_at(numbers, WRITTEN),
-        }
-    } else {
-        disagrees(0)
+    };
+    Judged {
+        agrees: replay_order(numbers, &program, step),
+        parts: number_at(numbers, WRITTEN),
     }
 }

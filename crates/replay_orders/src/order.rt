@@ -1,83 +1,39 @@
 // An order, run at the counter as a line says.
-ghost use Rattle.std.specs.Prelude.{◌≤◌, length};
-
-use crate::columns::{
-    CODE, CODE_ADDRESS, Columns, DATA_ADDRESS, NUMBER, OUTPUT_BYTES, PC, STEP, USED, VALUE, WRITTEN,
-};
-use replay_lists::columns::{bytes_at, length_at, number_at};
-use replay_lists::sizes::Sizes;
+use crate::columns::{NUMBER, OUTPUT_BYTES, PC, SIZES, STEP, USED, VALUE, WRITTEN};
+use replay_lists::columns::{length_at, number_at};
+use replay_lists::program::Program;
+use replay_lists::sizes::sizes_at;
 use runner::Printed;
 
-// One more than the largest step.
-const STEPS: u64 = 0x1_0000_0000;
-
-fn step_of(numbers: &[u64]) -> u32 {
-    (number_at(numbers, STEP) % STEPS) as u32
+// The most instructions that a line's order may take.
+pub(crate) fn step_of(numbers: &[u64]) -> Option<u32> {
+    u32::try_from(number_at(numbers, STEP)).ok()
 }
 
-pub(crate) fn is_step(numbers: &[u64]) -> bool {
-    number_at(numbers, STEP) < STEPS
-}
-
-// Runs the line's program on this input, in what the line lends of a row and of an output.
-fn print_on(
-    numbers: &[u64],
-    columns: Columns,
-    sizes: Sizes,
-    input: &[u64],
-    words: &mut [u64],
-    marks: &mut [u8],
-    output: &mut [u8],
-) -> Printed
-    requires lengths { (columns.code_length ≤ 512) × (columns.data_length ≤ 512) × (columns.«data» ≤ 1000) }
-    requires lent { (sizes.words ≤ length words.old) × (sizes.marks ≤ length marks.old) }
-{
-    let code = bytes_at(numbers, CODE);
-    let data = bytes_at(numbers, columns.data);
-    let code_length = columns.code_length;
-    let data_length = columns.data_length;
-    let lent_words = sizes.words;
-    let lent_marks = sizes.marks;
-    let lent_output = length_at(numbers, OUTPUT_BYTES, output.len());
-    runner::run_program(
-        &mut words[..lent_words],
-        &mut marks[..lent_marks],
-        sizes.memory,
-        sizes.log,
-        step_of(numbers),
-        number_at(numbers, CODE_ADDRESS),
-        &code[..code_length],
-        number_at(numbers, DATA_ADDRESS),
-        &data[..data_length],
-        input,
-        &mut output[..lent_output],
-    )
-}
-
-// Runs the line's program on the line's input.
+// Runs the program on its input, in what the line lends of a row and of an output; none if there is less than that.
 pub(crate) fn print(
     numbers: &[u64],
-    columns: Columns,
-    sizes: Sizes,
+    program: &Program,
+    step: u32,
     words: &mut [u64],
     marks: &mut [u8],
     output: &mut [u8],
-) -> Printed
-    requires lengths { (columns.code_length ≤ 512) × (columns.data_length ≤ 512) × (columns.«data» ≤ 1000) }
-    requires input { (columns.input ≤ columns.end) × (columns.end ≤ length numbers.now) }
-    requires lent { (sizes.words ≤ length words.old) × (sizes.marks ≤ length marks.old) }
-{
-    let start = columns.input;
-    let end = columns.end;
-    print_on(
-        numbers,
-        columns,
-        sizes,
-        &numbers[start..end],
-        words,
-        marks,
-        output,
-    )
+) -> Option<Printed> {
+    let sizes = sizes_at(numbers, SIZES, words, marks)?;
+    let lent_output = length_at(numbers, OUTPUT_BYTES, output.len())?;
+    Some(runner::run_program(
+        &mut words[..sizes.words],
+        &mut marks[..sizes.marks],
+        sizes.memory,
+        sizes.log,
+        step,
+        program.code_address,
+        program.code.as_slice(),
+        program.data_address,
+        program.data.as_slice(),
+        program.tape,
+        &mut output[..lent_output],
+    ))
 }
 
 // Whether this is the line's answer.

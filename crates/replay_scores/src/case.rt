@@ -1,8 +1,6 @@
 // One case: a store, its scoring and some of its counters, on arrays of its own.
-ghost use Rattle.std.specs.Prelude.{◌≤◌};
-
-use crate::call::{JUNK_SCORE, are_scores, call, can_lend, is_mean};
-use crate::columns::{Columns, LENT_MARKS, LENT_WORDS, MEAN, NUMBER, columns_of, is_whole};
+use crate::call::{JUNK_SCORE, are_scores, call};
+use crate::columns::{LENT_MARKS, LENT_WORDS, NUMBER, Parts, parts_of};
 use crate::counters::are_counters;
 use crate::runs::{put_marks, put_words};
 use replay_lists::columns::{length_at, number_at};
@@ -16,54 +14,39 @@ const MARKS: usize = 4608;
 const SCORES: usize = 18;
 
 // Whether the call has the line's number and leaves the line's scores.
-fn replay_call(numbers: &[u64], count: usize, words: &[u64], marks: &[u8]) -> bool
-    requires { count ≤ 1536 }
-{
+fn replay_call(numbers: &[u64], expected: &[u64], words: &[u64], marks: &[u8]) -> bool {
     let mut scores = [JUNK_SCORE; SCORES];
-    let lent = can_lend(numbers, words, marks, &scores);
-    let number = call(numbers, words, marks, &mut scores);
-    lent && number == number_at(numbers, NUMBER) && are_scores(numbers, count, &scores)
+    call(numbers, words, marks, &mut scores) == Some(number_at(numbers, NUMBER))
+        && are_scores(expected, &scores)
 }
 
-fn replay_counters(numbers: &[u64], columns: Columns, words: &[u64], marks: &[u8]) -> bool
-    requires { (columns.first_counter ≤ 1548) × (columns.counters ≤ 1536) }
-{
-    let lent_words = length_at(numbers, LENT_WORDS, words.len());
-    let lent_marks = length_at(numbers, LENT_MARKS, marks.len());
-    are_counters(
+fn replay_counters(numbers: &[u64], counters: &[u64], words: &[u64], marks: &[u8]) -> Option<bool> {
+    let lent_words = length_at(numbers, LENT_WORDS, words.len())?;
+    let lent_marks = length_at(numbers, LENT_MARKS, marks.len())?;
+    Some(are_counters(
         numbers,
-        columns.first_counter,
-        columns.counters,
+        counters,
         &words[..lent_words],
         &marks[..lent_marks],
-    )
+    ))
+}
+
+// Whether the line's store comes to the line's scores and counters; none if a run of the store is not within it.
+fn replay_store(numbers: &[u64], parts: Parts) -> Option<bool> {
+    let mut words = [0; WORDS];
+    let mut marks = [0; MARKS];
+    put_words(parts.word_runs, &mut words)?;
+    put_marks(parts.mark_runs, &mut marks)?;
+    let counted = replay_counters(numbers, parts.counters, &words, &marks)?;
+    Some(counted && replay_call(numbers, parts.scores, &words, &marks))
 }
 
 pub(crate) fn judge(numbers: &[u64]) -> Judged {
-    let columns = columns_of(numbers);
-    if !is_whole(numbers, columns) {
+    let Some(parts) = parts_of(numbers) else {
         return disagrees(0);
-    }
-    let mut words = [0; WORDS];
-    let mut marks = [0; MARKS];
-    let all_words = put_words(
-        numbers,
-        columns.first_word_run,
-        columns.word_runs,
-        &mut words,
-    );
-    let all_marks = put_marks(
-        numbers,
-        columns.first_mark_run,
-        columns.mark_runs,
-        &mut marks,
-    );
+    };
     Judged {
-        agrees: all_words
-            && all_marks
-            && is_mean(number_at(numbers, MEAN))
-            && replay_call(numbers, columns.scores, &words, &marks)
-            && replay_counters(numbers, columns, &words, &marks),
-        parts: columns.scores as u64,
+        agrees: replay_store(numbers, parts) == Some(true),
+        parts: parts.scores.len() as u64,
     }
 }

@@ -1,6 +1,4 @@
 // Where the parts of a line stand: twelve numbers, then scores, counters, and the runs of words and of marks.
-ghost use Rattle.std.specs.Prelude.{◌≤◌};
-
 use replay_lists::columns::length_at;
 
 pub(crate) const MEMORY: usize = 0;
@@ -27,7 +25,7 @@ const WORD_RUNS: usize = 10;
 
 const MARK_RUNS: usize = 11;
 
-pub(crate) const FIRST_SCORE: usize = 12;
+const FIRST_SCORE: usize = 12;
 
 // Counters and runs have three numbers each.
 pub(crate) const TRIPLE: usize = 3;
@@ -35,41 +33,29 @@ pub(crate) const TRIPLE: usize = 3;
 // The most that a line has.
 pub(crate) const MOST_NUMBERS: usize = 1536;
 
+// The numbers of a line after its first, by what they say.
 #[derive(Clone, Copy)]
-pub(crate) struct Columns {
-    pub(crate) scores: usize,
-    // how many there are, and where the first stands
-    pub(crate) counters: usize,
-    pub(crate) first_counter: usize,
-    pub(crate) word_runs: usize,
-    pub(crate) first_word_run: usize,
-    pub(crate) mark_runs: usize,
-    pub(crate) first_mark_run: usize,
+pub(crate) struct Parts<'a> {
+    pub(crate) scores: &'a [u64],
+    pub(crate) counters: &'a [u64],
+    pub(crate) word_runs: &'a [u64],
+    pub(crate) mark_runs: &'a [u64],
 }
 
-pub(crate) fn columns_of(numbers: &[u64]) -> Columns
-    ensures counts { (result.scores ≤ 1536) × (result.counters ≤ 1536) × (result.word_runs ≤ 1536) × (result.mark_runs ≤ 1536) }
-    ensures places { (result.first_counter ≤ 1548) × (result.first_word_run ≤ 6156) × (result.first_mark_run ≤ 10764) }
-{
-    let scores = length_at(numbers, SCORES, MOST_NUMBERS);
-    let counters = length_at(numbers, COUNTERS, MOST_NUMBERS);
-    let word_runs = length_at(numbers, WORD_RUNS, MOST_NUMBERS);
-    let first_counter = FIRST_SCORE + scores;
-    let first_word_run = first_counter + TRIPLE * counters;
-    Columns {
+// The parts of a line that has just so many numbers as it says.
+pub(crate) fn parts_of(numbers: &[u64]) -> Option<Parts<'_>> {
+    let scores = length_at(numbers, SCORES, MOST_NUMBERS)?;
+    let counters = length_at(numbers, COUNTERS, MOST_NUMBERS)?;
+    let word_runs = length_at(numbers, WORD_RUNS, MOST_NUMBERS)?;
+    let mark_runs = length_at(numbers, MARK_RUNS, MOST_NUMBERS)?;
+    let (_, rest) = numbers.split_at_checked(FIRST_SCORE)?;
+    let (scores, rest) = rest.split_at_checked(scores)?;
+    let (counters, rest) = rest.split_at_checked(TRIPLE * counters)?;
+    let (word_runs, rest) = rest.split_at_checked(TRIPLE * word_runs)?;
+    (rest.len() == TRIPLE * mark_runs).then_some(Parts {
         scores,
         counters,
-        first_counter,
         word_runs,
-        first_word_run,
-        mark_runs: length_at(numbers, MARK_RUNS, MOST_NUMBERS),
-        first_mark_run: first_word_run + TRIPLE * word_runs,
-    }
-}
-
-// Whether the line has just so many numbers as it says.
-pub(crate) fn is_whole(numbers: &[u64], columns: Columns) -> bool
-    requires { (columns.first_mark_run ≤ 10764) × (columns.mark_runs ≤ 1536) }
-{
-    numbers.len() == columns.first_mark_run + TRIPLE * columns.mark_runs
+        mark_runs: rest,
+    })
 }

@@ -1,5 +1,6 @@
 // The options of a line.
-use options::{RaritySimulationOptions, mean_numbered};
+use means::MeanType;
+use options::RaritySimulationOptions;
 use replay_lists::columns::number_at;
 use replay_lists::float::float_of;
 
@@ -17,36 +18,29 @@ const MEAN: usize = 5;
 
 const MEMORY: usize = 6;
 
-// The number of the last mean.
-const HARMONIC: u64 = 1;
-
-// One more than the largest step, selection and number of rounds.
-const COUNTS: u64 = 0x1_0000_0000;
-
-fn count_at(numbers: &[u64], at: usize) -> u32 {
-    (number_at(numbers, at) % COUNTS) as u32
+// Steps, selection and rounds, and no other numbers of a line, have 32 bits.
+fn count_at(numbers: &[u64], at: usize) -> Option<u32> {
+    u32::try_from(number_at(numbers, at)).ok()
 }
 
-fn is_count(numbers: &[u64], at: usize) -> bool {
-    number_at(numbers, at) < COUNTS
-}
-
-pub(crate) fn options_of(numbers: &[u64]) -> RaritySimulationOptions {
-    RaritySimulationOptions {
-        memory_size: number_at(numbers, MEMORY),
-        amount_of_states: number_at(numbers, STATES),
-        step_size: count_at(numbers, STEP),
-        selection: count_at(numbers, SELECTION),
-        iterations: count_at(numbers, ROUNDS),
-        copy_init_ratio: float_of(number_at(numbers, RATIO)),
-        mean: mean_numbered(number_at(numbers, MEAN)),
+// The mean of a number, as the list has it.
+fn mean_at(numbers: &[u64], at: usize) -> Option<MeanType> {
+    match number_at(numbers, at) {
+        0 => Some(MeanType::Arithmetic),
+        1 => Some(MeanType::Harmonic),
+        _ => None,
     }
 }
 
-// Whether there are such options.
-pub(crate) fn are_options(numbers: &[u64]) -> bool {
-    number_at(numbers, MEAN) <= HARMONIC
-        && is_count(numbers, STEP)
-        && is_count(numbers, SELECTION)
-        && is_count(numbers, ROUNDS)
+// None if there are no such options.
+pub(crate) fn options_of(numbers: &[u64]) -> Option<RaritySimulationOptions> {
+    Some(RaritySimulationOptions {
+        memory_size: number_at(numbers, MEMORY),
+        amount_of_states: number_at(numbers, STATES),
+        step_size: count_at(numbers, STEP)?,
+        selection: count_at(numbers, SELECTION)?,
+        iterations: count_at(numbers, ROUNDS)?,
+        copy_init_ratio: float_of(number_at(numbers, RATIO)),
+        mean: mean_at(numbers, MEAN)?,
+    })
 }

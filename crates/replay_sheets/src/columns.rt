@@ -1,8 +1,8 @@
 // Where the parts of a line stand: three numbers, the words of the sheet, and the words of what is printed.
-ghost use Rattle.std.specs.Prelude.{◌≤◌};
+ghost use Rattle.std.specs.Prelude.{◌<◌, ◌≤◌, length};
 ghost use Rattle.report.specs.Reports.{sheet_buffer, most_printed};
 
-use replay_lists::columns::{is_length, length_at};
+use replay_lists::columns::{WORD_BYTES, byte_of, length_at, number_at};
 use report::{MOST_PRINTED, SHEET_BUFFER};
 
 // The length of the sheet and of what is printed are in bytes.
@@ -12,43 +12,47 @@ const STORED: usize = 1;
 
 const PRINTED: usize = 2;
 
-pub(crate) const SHEET: usize = 3;
+const SHEET: usize = 3;
 
 // The most that a line has.
 pub(crate) const MOST_NUMBERS: usize = 512;
 
-pub(crate) const WORD_BYTES: usize = 8;
-
 #[derive(Clone, Copy)]
-pub(crate) struct Columns {
-    pub(crate) length: usize,
+pub(crate) struct Case<'a> {
+    // of the sheet, in bytes
+    pub(crate) bytes: usize,
     // words of the sheet that the line has
-    pub(crate) stored: usize,
-    // bytes that are printed
+    pub(crate) stored: &'a [u64],
+    // the words of the bytes that are printed, and how many bytes these are
+    pub(crate) words: &'a [u64],
     pub(crate) printed: usize,
+    ghost within_buffer: { bytes ≤ sheet_buffer },
+    ghost has_stored: { 0 < length stored.now },
+    ghost at_most: { printed ≤ most_printed },
 }
 
-pub(crate) fn columns_of(numbers: &[u64]) -> Columns
-    ensures { (result.length ≤ sheet_buffer) × (result.stored ≤ 512) × (result.printed ≤ most_printed) }
-{
-    Columns {
-        length: length_at(numbers, LENGTH, SHEET_BUFFER),
-        stored: length_at(numbers, STORED, MOST_NUMBERS),
-        printed: length_at(numbers, PRINTED, MOST_PRINTED),
+// The case of a line that has the lengths that it says, and just so many numbers.
+pub(crate) fn case_of(numbers: &[u64]) -> Option<Case<'_>> {
+    let bytes = length_at(numbers, LENGTH, SHEET_BUFFER)?;
+    let stored = length_at(numbers, STORED, MOST_NUMBERS)?;
+    let printed = length_at(numbers, PRINTED, MOST_PRINTED)?;
+    let (_, rest) = numbers.split_at_checked(SHEET)?;
+    let (stored, words) = rest.split_at_checked(stored)?;
+    if stored.is_empty() || words.len() != printed.div_ceil(WORD_BYTES) {
+        return None;
     }
+    Some(Case {
+        bytes,
+        stored,
+        words,
+        printed,
+    })
 }
 
-// Whether these are the lengths that the line says.
-fn are_lengths(numbers: &[u64], columns: Columns) -> bool {
-    is_length(numbers, LENGTH, columns.length)
-        && is_length(numbers, STORED, columns.stored)
-        && is_length(numbers, PRINTED, columns.printed)
-}
-
-// Whether the line has just so many numbers.
-pub(crate) fn is_whole(numbers: &[u64], columns: Columns) -> bool
-    requires { (columns.stored ≤ 512) × (columns.printed ≤ most_printed) }
-{
-    let words = (columns.printed + WORD_BYTES - 1) / WORD_BYTES;
-    are_lengths(numbers, columns) && numbers.len() == SHEET + columns.stored + words
+// A byte of some words, counted from the lowest of the first; 0 past the last.
+pub(crate) fn byte_at(words: &[u64], place: usize) -> u8 {
+    byte_of(
+        number_at(words, place / WORD_BYTES),
+        (place % WORD_BYTES) as u64,
+    )
 }

@@ -1,8 +1,0 @@
-use Rattle.std.proofs.Common.{◌≡◌, ◌-◌, length}
-use Rattle.replay_labels.proofs.list.replay.Given as goal
-
-abbrev pub invariant-loop-at : goal.invariant-loop-at
-invariant-loop-at g l = 192 ≡ length l.numbers
-
-abbrev pub decreases-loop-at : goal.decreases-loop-at
-decreases-loop-at g l = 0x100000000 - l.at

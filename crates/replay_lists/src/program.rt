@@ -1,0 +1,84 @@
+// The program of a line, and what it reads: columns that say how long its parts are, and the words of these parts.
+ghost use Rattle.std.specs.Prelude.{◌≡◌, ◌+◌, ◌≤◌, ◌++◌, length, take, drop, IfSome};
+ghost use Rattle.replay_lists.specs.Columns.{number_at, words_for, words_end, bytes_at};
+
+use crate::columns::{MOST_BYTES, bytes_at, length_at, number_at, words_of};
+
+// Columns, counted from the first of a program, where the address of its code stands.
+const CODE_LENGTH: usize = 1;
+
+const DATA_ADDRESS: usize = 2;
+
+const DATA_LENGTH: usize = 3;
+
+const TAPE_WORDS: usize = 4;
+
+// Bytes that a line has as words, in room for the most that there may be.
+#[derive(Clone, Copy)]
+pub struct Bytes {
+    pub room: [u8; MOST_BYTES],
+    pub length: usize,
+    ghost within: { length ≤ 512 },
+}
+
+#[derive(Clone, Copy)]
+pub struct Program<'a> {
+    pub code_address: u64,
+    pub code: Bytes,
+    pub data_address: u64,
+    pub data: Bytes,
+    pub tape: &'a [u64],
+    // the numbers that follow the tape
+    pub rest: &'a [u64],
+}
+
+impl Bytes {
+    // So many bytes as a column says, in the words from `start` on. None if they are more than there is room for.
+    fn at(numbers: &[u64], column: usize, start: usize) -> Option<Bytes>
+        requires { start ≤ 1000 }
+        ensures room { IfSome result (λ b. b.room ≡ bytes_at 512 numbers.now start) }
+        ensures length { IfSome result (λ b. b.length ≡ number_at numbers.now column) }
+    {
+        let length = length_at(numbers, column, MOST_BYTES)?;
+        Some(Bytes {
+            room: bytes_at(numbers, start),
+            length,
+        })
+    }
+
+    pub fn as_slice(&self) -> &[u8]
+        ensures { result.now ≡ take self.now.length self.now.room }
+    {
+        &self.room[..self.length]
+    }
+}
+
+impl<'a> Program<'a> {
+    // The program whose columns begin at `at`, and whose words begin at `start`. None if a length is above the most, or the line too
+    // short for it.
+    pub fn at(numbers: &'a [u64], at: usize, start: usize) -> Option<Program<'a>>
+        requires { (at ≤ 100) × (start ≤ 100) }
+        ensures code_room { IfSome result (λ p. p.code.room ≡ bytes_at 512 numbers.now start) }
+        ensures code_length { IfSome result (λ p. p.code.length ≡ number_at numbers.now (at + 1)) }
+        ensures code_address { IfSome result (λ p. p.code_address ≡ number_at numbers.now at) }
+        ensures data_length { IfSome result (λ p. p.«data».length ≡ number_at numbers.now (at + 3)) }
+        ensures data_room { IfSome result (λ p. p.«data».room ≡ bytes_at 512 numbers.now (start + words_for p.code.length)) }
+        ensures data_address { IfSome result (λ p. p.data_address ≡ number_at numbers.now (at + 2)) }
+        ensures tape { IfSome result (λ p. p.tape.now ++ p.rest.now ≡ drop (words_end start p.code.length p.«data».length) numbers.now) }
+        ensures tape_words { IfSome result (λ p. length p.tape.now ≡ number_at numbers.now (at + 4)) }
+    {
+        let code = Bytes::at(numbers, at + CODE_LENGTH, start)?;
+        let data_start = start + words_of(code.length);
+        let data = Bytes::at(numbers, at + DATA_LENGTH, data_start)?;
+        let (_, tape) = numbers.split_at_checked(data_start + words_of(data.length))?;
+        let (tape, rest) = tape.split_at_checked(number_at(numbers, at + TAPE_WORDS) as usize)?;
+        Some(Program {
+            code_address: number_at(numbers, at),
+            code,
+            data_address: number_at(numbers, at + DATA_ADDRESS),
+            data,
+            tape,
+            rest,
+        })
+    }
+}
