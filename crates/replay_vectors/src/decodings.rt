@@ -1,42 +1,33 @@
 // The list of decodings: a word, its form, its registers and its immediate.
-use crate::columns::{eight_digits_at, has_shape, sixteen_digits_at, two_digits_at};
+ghost use Rattle.std.specs.Prelude.{IfSome};
+ghost use Rattle.riscu.specs.Registers.{Registers};
+
+use crate::columns::{Column, has_shape};
 use crate::tally::Verdict;
 use riscu::decode::decode;
 use riscu::immediate::imm_b;
 use riscu::instruction::{BType, Decoded, IType, Instruction, JType, RType, SType, UType};
 
-// Where the columns start.
-const WORD: usize = 0;
+const WORD: Column = Column { at: 0, digits: 8 };
 
-const FORM: usize = 9;
+const FORM: Column = Column { at: 9, digits: 2 };
 
-const RD: usize = 12;
+const RD: Column = Column { at: 12, digits: 2 };
 
-const RS1: usize = 15;
+const RS1: Column = Column { at: 15, digits: 2 };
 
-const RS2: usize = 18;
+const RS2: Column = Column { at: 18, digits: 2 };
 
-const IMM: usize = 21;
+const IMM: Column = Column { at: 21, digits: 16 };
 
-// The codes of the forms; the others stand in `fields_of`.
-const REFUSED: u64 = 0;
-
-pub(crate) const LUI: u64 = 1;
-
-pub(crate) const JALR: u64 = 3;
-
-pub(crate) const DIVU: u64 = 12;
-
-pub(crate) const REMU: u64 = 13;
-
-// A decoding in the list's columns: 0 where the form has no such field.
-#[derive(Clone, Copy)]
+// A decoding in the list's columns: 0 where the form has no such field. The form of a word that is refused is 0 too.
+#[derive(Clone, Copy, Default, PartialEq)]
 pub(crate) struct Fields {
-    pub(crate) form: u64,
+    form: u64,
     pub(crate) rd: usize,
     pub(crate) rs1: usize,
     pub(crate) rs2: usize,
-    pub(crate) imm: u64,
+    imm: u64,
 }
 
 fn r_fields(form: u64, t: RType) -> Fields {
@@ -79,41 +70,22 @@ fn b_fields(form: u64, t: BType) -> Fields {
     }
 }
 
-fn u_fields(form: u64, t: UType) -> Fields {
+// The formats of one register and an immediate are U and J.
+fn rd_fields(form: u64, rd: usize, imm: u64) -> Fields {
     Fields {
         form,
-        rd: t.rd,
+        rd,
         rs1: 0,
         rs2: 0,
-        imm: t.imm,
-    }
-}
-
-fn j_fields(form: u64, t: JType) -> Fields {
-    Fields {
-        form,
-        rd: t.rd,
-        rs1: 0,
-        rs2: 0,
-        imm: t.imm,
-    }
-}
-
-fn no_fields(form: u64) -> Fields {
-    Fields {
-        form,
-        rd: 0,
-        rs1: 0,
-        rs2: 0,
-        imm: 0,
+        imm,
     }
 }
 
 pub(crate) fn fields_of(instruction: Instruction) -> Fields {
     match instruction {
-        Instruction::Lui(t) => u_fields(LUI, t),
-        Instruction::Jal(t) => j_fields(2, t),
-        Instruction::Jalr(t) => i_fields(JALR, t),
+        Instruction::Lui(UType { rd, imm }) => rd_fields(1, rd, imm),
+        Instruction::Jal(JType { rd, imm }) => rd_fields(2, rd, imm),
+        Instruction::Jalr(t) => i_fields(3, t),
         Instruction::Beq(t) => b_fields(4, t),
         Instruction::Ld(t) => i_fields(5, t),
         Instruction::Sd(t) => s_fields(6, t),
@@ -122,35 +94,42 @@ pub(crate) fn fields_of(instruction: Instruction) -> Fields {
         Instruction::Sub(t) => r_fields(9, t),
         Instruction::Mul(t) => r_fields(10, t),
         Instruction::Sltu(t) => r_fields(11, t),
-        Instruction::Divu(t) => r_fields(DIVU, t),
-        Instruction::Remu(t) => r_fields(REMU, t),
-        Instruction::Ecall => no_fields(14),
+        Instruction::Divu(t) => r_fields(12, t),
+        Instruction::Remu(t) => r_fields(13, t),
+        Instruction::Ecall => rd_fields(14, 0, 0),
     }
 }
 
-fn decoded_fields(word: u32) -> Fields {
+// The instruction of a word, if it is a valid encoding. It names registers that there are.
+pub(crate) fn instruction_of(word: u32) -> Option<Instruction>
+    ensures { IfSome result (λ i. Registers i) }
+{
     match decode(word) {
-        Decoded::Valid(instruction) => fields_of(instruction),
-        Decoded::Invalid => no_fields(REFUSED),
+        Decoded::Valid(instruction) => Some(instruction),
+        Decoded::Invalid => None,
     }
 }
 
-// Whether every column of the line is what this project decodes.
-fn agrees(line: &[u8], found: Fields) -> bool {
-    two_digits_at(line, FORM) == found.form
-        && two_digits_at(line, RD) == found.rd as u64
-        && two_digits_at(line, RS1) == found.rs1 as u64
-        && two_digits_at(line, RS2) == found.rs2 as u64
-        && sixteen_digits_at(line, IMM) == found.imm
+// The line's columns.
+fn fields_at(line: &[u8]) -> Fields {
+    Fields {
+        form: FORM.number(line),
+        rd: RD.number(line) as usize,
+        rs1: RS1.number(line) as usize,
+        rs2: RS2.number(line) as usize,
+        imm: IMM.number(line),
+    }
 }
 
 const SHAPE: [u8; 37] = *b"hhhhhhhh hh hh hh hh hhhhhhhhhhhhhhhh";
 
+// Whether every column of the line is what this project decodes.
 pub(crate) fn judge(line: &[u8]) -> Verdict {
     if !has_shape(line, &SHAPE) {
         return Verdict::Disagrees;
     }
-    if agrees(line, decoded_fields(eight_digits_at(line, WORD))) {
+    let decoded = instruction_of(WORD.word(line)).map_or(Fields::default(), fields_of);
+    if decoded == fields_at(line) {
         Verdict::Agrees
     } else {
         Verdict::Disagrees

@@ -1,35 +1,35 @@
-// The list of results: a mark, an instruction word with its pc and operands, what it does by the manual, and by document 01.
+// The list of results: a mark, an instruction word with its pc and operands, what it does by the manual, and by the scope paper.
 ghost use Rattle.std.specs.Prelude.{◌≡◌, length};
 ghost use Rattle.riscu.specs.Registers.{Registers};
 
-use crate::columns::{byte_at, eight_digits_at, has_shape, sixteen_digits_at, two_digits_at};
-use crate::decodings::{DIVU, Fields, JALR, LUI, REMU, fields_of};
+use crate::columns::{Column, has_shape};
+use crate::decodings::{Fields, fields_of, instruction_of};
 use crate::tally::{Departure, Verdict};
 use effects::effect::{Effect, effect_of};
-use riscu::decode::decode;
-use riscu::instruction::{Decoded, Instruction};
+use riscu::instruction::Instruction;
 use values::Value;
 
-// Where the columns start.
-const MARK: usize = 0;
+// The first column of a line is its mark.
+const WORD: Column = Column { at: 2, digits: 8 };
 
-const WORD: usize = 2;
+const PC: Column = Column { at: 11, digits: 16 };
 
-const PC: usize = 11;
+const RS1_VALUE: Column = Column { at: 28, digits: 16 };
 
-const RS1_VALUE: usize = 28;
+const RS2_VALUE: Column = Column { at: 45, digits: 16 };
 
-const RS2_VALUE: usize = 45;
+const MANUAL_RD_VALUE: Column = Column { at: 62, digits: 16 };
 
-const MANUAL_RD_VALUE: usize = 62;
+const MANUAL_NEXT: Column = Column { at: 79, digits: 16 };
 
-const MANUAL_NEXT: usize = 79;
+const NUMBER: Column = Column { at: 96, digits: 2 };
 
-const NUMBER: usize = 96;
+const RD_VALUE: Column = Column { at: 99, digits: 16 };
 
-const RD_VALUE: usize = 99;
-
-const NEXT: usize = 116;
+const NEXT: Column = Column {
+    at: 116,
+    digits: 16,
+};
 
 const REGISTERS: usize = 32;
 
@@ -41,63 +41,39 @@ const NO_MEMORY: u64 = 0;
 
 // What an instruction does, in the list's columns. Without a register to write the value is 0. With a number that ends the
 // executor the value is the answer's, and there is no next pc.
-#[derive(Clone, Copy)]
+#[derive(Clone, Copy, PartialEq)]
 struct Step {
     number: u64,
     value: u64,
     next: u64,
 }
 
-#[derive(Clone, Copy)]
-enum Taken {
-    Step(Step),
-    // an effect that no line of the list has
-    Other,
-}
-
-fn same(a: Step, b: Step) -> bool {
-    a.number == b.number && a.value == b.value && a.next == b.next
-}
-
-fn goes_on(value: u64, next: u64) -> Taken {
-    Taken::Step(Step {
-        number: GOES_ON,
-        value,
-        next,
-    })
+impl Step {
+    fn going_on(value: u64, next: u64) -> Step {
+        Step {
+            number: GOES_ON,
+            value,
+            next,
+        }
+    }
 }
 
 // An assignment has to be to the instruction's rd. x0 is never written, so that a jump with no assignment may only come from
-// an instruction that has no rd, or x0 there.
-fn step_of(effect: Effect, rd: usize) -> Taken {
+// an instruction that has no rd, or x0 there. None for an effect that no line of the list has.
+fn step_of(effect: Effect, rd: usize) -> Option<Step> {
     match effect {
         Effect::Assign {
             rd: assigned,
-            value,
+            value: Value::Concrete(value),
             next_pc,
-        } => {
-            let Value::Concrete(value) = value else {
-                return Taken::Other;
-            };
-            if assigned == rd && rd != 0 {
-                goes_on(value, next_pc)
-            } else {
-                Taken::Other
-            }
-        }
-        Effect::Jump { next_pc } => {
-            if rd == 0 {
-                goes_on(0, next_pc)
-            } else {
-                Taken::Other
-            }
-        }
-        Effect::End(outcome) => Taken::Step(Step {
+        } if assigned == rd && rd != 0 => Some(Step::going_on(value, next_pc)),
+        Effect::Jump { next_pc } if rd == 0 => Some(Step::going_on(0, next_pc)),
+        Effect::End(outcome) => Some(Step {
             number: outcome.number(),
             value: outcome.value(),
             next: 0,
         }),
-        _ => Taken::Other,
+        _ => None,
     }
 }
 
@@ -115,63 +91,38 @@ fn with_register(mut registers: [u64; 32], n: usize, value: u64) -> [u64; 32]
 fn effect_on(line: &[u8], instruction: Instruction, fields: Fields) -> Effect
     requires { Registers instruction }
 {
-    let registers = with_register([0; 32], fields.rs1, sixteen_digits_at(line, RS1_VALUE));
-    let registers = with_register(registers, fields.rs2, sixteen_digits_at(line, RS2_VALUE));
+    let registers = with_register([0; 32], fields.rs1, RS1_VALUE.number(line));
+    let registers = with_register(registers, fields.rs2, RS2_VALUE.number(line));
     let concrete = [1u8; 32];
     effect_of(
         &registers,
         &concrete,
         instruction,
-        sixteen_digits_at(line, PC),
+        PC.number(line),
         NO_MEMORY,
     )
 }
 
-// The departure that a mark names, in an instruction that can depart so.
-fn departure(mark: u8, form: u64) -> Verdict {
-    if mark == b'L' && form == LUI {
-        return Verdict::Departs(Departure::Lui);
-    }
-    if mark == b'J' && form == JALR {
-        return Verdict::Departs(Departure::Jalr);
-    }
-    if mark == b'Z' && (form == DIVU || form == REMU) {
-        return Verdict::Departs(Departure::ZeroDivisor);
-    }
-    Verdict::Disagrees
-}
-
-// A line with the mark of agreement has one answer by the manual and by document 01, and any other line two.
-fn marked(line: &[u8], form: u64, ours: Step) -> Verdict {
-    let manual = Step {
-        number: GOES_ON,
-        value: sixteen_digits_at(line, MANUAL_RD_VALUE),
-        next: sixteen_digits_at(line, MANUAL_NEXT),
-    };
-    let mark = byte_at(line, MARK);
-    if same(manual, ours) {
-        if mark == b'=' {
-            Verdict::Agrees
-        } else {
-            Verdict::Disagrees
+// The departure that a line's mark names, in an instruction that can depart so.
+fn departure(line: &[u8], instruction: Instruction) -> Verdict {
+    match (line.first(), instruction) {
+        (Some(b'L'), Instruction::Lui(_)) => Verdict::Departs(Departure::Lui),
+        (Some(b'J'), Instruction::Jalr(_)) => Verdict::Departs(Departure::Jalr),
+        (Some(b'Z'), Instruction::Divu(_) | Instruction::Remu(_)) => {
+            Verdict::Departs(Departure::ZeroDivisor)
         }
-    } else {
-        departure(mark, form)
+        _ => Verdict::Disagrees,
     }
 }
 
-// The line's columns of document 01 against what this project does.
-fn compared(line: &[u8], effect: Effect, fields: Fields) -> Verdict {
-    let Taken::Step(found) = step_of(effect, fields.rd) else {
-        return Verdict::Disagrees;
-    };
-    let ours = Step {
-        number: two_digits_at(line, NUMBER),
-        value: sixteen_digits_at(line, RD_VALUE),
-        next: sixteen_digits_at(line, NEXT),
-    };
-    if same(found, ours) {
-        marked(line, fields.form, ours)
+// A line with the mark of agreement has one answer by the manual and by the scope paper, and any other line two.
+fn marked(line: &[u8], instruction: Instruction, ours: Step) -> Verdict {
+    let manual = Step::going_on(MANUAL_RD_VALUE.number(line), MANUAL_NEXT.number(line));
+    if manual != ours {
+        return departure(line, instruction);
+    }
+    if line.first() == Some(&b'=') {
+        Verdict::Agrees
     } else {
         Verdict::Disagrees
     }
@@ -180,13 +131,23 @@ fn compared(line: &[u8], effect: Effect, fields: Fields) -> Verdict {
 const SHAPE: [u8; 132] =
     *b"? hhhhhhhh hhhhhhhhhhhhhhhh hhhhhhhhhhhhhhhh hhhhhhhhhhhhhhhh hhhhhhhhhhhhhhhh hhhhhhhhhhhhhhhh hh hhhhhhhhhhhhhhhh hhhhhhhhhhhhhhhh";
 
+// The line's columns of the scope paper against what this project does.
 pub(crate) fn judge(line: &[u8]) -> Verdict {
     if !has_shape(line, &SHAPE) {
         return Verdict::Disagrees;
     }
-    let Decoded::Valid(instruction) = decode(eight_digits_at(line, WORD)) else {
+    let Some(instruction) = instruction_of(WORD.word(line)) else {
         return Verdict::Disagrees;
     };
     let fields = fields_of(instruction);
-    compared(line, effect_on(line, instruction, fields), fields)
+    let ours = Step {
+        number: NUMBER.number(line),
+        value: RD_VALUE.number(line),
+        next: NEXT.number(line),
+    };
+    if step_of(effect_on(line, instruction, fields), fields.rd) == Some(ours) {
+        marked(line, instruction, ours)
+    } else {
+        Verdict::Disagrees
+    }
 }
