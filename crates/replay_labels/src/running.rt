@@ -1,5 +1,6 @@
 // A run of a row, changed before it as a line says.
 use answers::answer::Answer;
+use replay_lists::answer::is_answer;
 use replay_lists::columns::number_at;
 use replay_lists::digest::digest_of;
 use replay_lists::sizes::sizes_at;
@@ -15,13 +16,8 @@ const PUT: usize = 6;
 
 const STEP: usize = 7;
 
-const NUMBER: usize = 8;
-
-const PC: usize = 9;
-
-const VALUE: usize = 10;
-
-const USED: usize = 11;
+// Of number, pc, value and used count the first.
+const ANSWER: usize = 8;
 
 const DIGEST: usize = 12;
 
@@ -66,13 +62,6 @@ fn run_changed(run: &[u64], tape: &[u64], words: &mut [u64], marks: &mut [u8]) -
     Some(ran.answer())
 }
 
-fn is_answer(run: &[u64], answer: Answer) -> bool {
-    answer.number == number_at(run, NUMBER)
-        && answer.pc == number_at(run, PC)
-        && answer.value == number_at(run, VALUE)
-        && answer.used == number_at(run, USED)
-}
-
 // How many tape words a run takes that has the line's answer and leaves what the line says; none if it does not.
 pub(crate) fn replay_run(
     run: &[u64],
@@ -81,6 +70,7 @@ pub(crate) fn replay_run(
     marks: &mut [u8],
 ) -> Option<usize> {
     let answer = run_changed(run, tape, words, marks)?;
-    let agrees = is_answer(run, answer) && digest_of(words, marks) == number_at(run, DIGEST);
+    let agrees = is_answer(run, ANSWER, answer)
+        && digest_of(words, marks) == number_at(run, DIGEST);
     agrees.then_some(answer.used as usize)
 }

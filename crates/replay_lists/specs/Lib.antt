@@ -1,3 +1,4 @@
+pub mod Answers
 pub mod Columns
 pub mod Digits
 pub mod Digests

@@ -2,6 +2,7 @@
 // cases that agree.
 #![tactic(auto)]
 
+pub mod answer;
 pub mod columns;
 pub mod digest;
 pub mod digits;

@@ -10,13 +10,8 @@ pub(crate) const STEP: usize = 9;
 
 pub(crate) const OUTPUT_BYTES: usize = 10;
 
-pub(crate) const NUMBER: usize = 11;
-
-pub(crate) const PC: usize = 12;
-
-pub(crate) const VALUE: usize = 13;
-
-pub(crate) const USED: usize = 14;
+// Of number, pc, value and used count the first.
+pub(crate) const ANSWER: usize = 11;
 
 pub(crate) const WRITTEN: usize = 15;
 

@@ -1,5 +1,6 @@
 // An order, run at the counter as a line says.
-use crate::columns::{NUMBER, OUTPUT_BYTES, PC, SIZES, STEP, USED, VALUE, WRITTEN};
+use crate::columns::{ANSWER, OUTPUT_BYTES, SIZES, STEP, WRITTEN};
+use replay_lists::answer;
 use replay_lists::columns::{length_at, number_at};
 use replay_lists::program::Program;
 use replay_lists::sizes::sizes_at;
@@ -39,10 +40,6 @@ pub(crate) fn print(
 // Whether this is the line's answer.
 pub(crate) fn is_answer(numbers: &[u64], printed: Printed) -> bool {
     let ran = printed.answer;
-    let answer = ran.answer();
-    answer.number == number_at(numbers, NUMBER)
-        && answer.pc == number_at(numbers, PC)
-        && answer.value == number_at(numbers, VALUE)
-        && answer.used == number_at(numbers, USED)
+    answer::is_answer(numbers, ANSWER, ran.answer())
         && printed.written as u64 == number_at(numbers, WRITTEN)
 }

@@ -1,20 +1,11 @@
 // The call of a line, and the scores that it leaves.
 use crate::columns::{LENT_MARKS, LENT_SCORES, LENT_WORDS, LOG, MEAN, MEMORY, ROWS};
-use means::MeanType;
+use replay_lists::answer::mean_at;
 use replay_lists::columns::{length_at, number_at};
 use replay_lists::float::float_of;
 
 // What stands in the scores before a call: no score is below 1.
 pub(crate) const JUNK_SCORE: f64 = 0.25;
-
-// The mean of a number, as the list has it.
-pub(crate) fn mean_at(numbers: &[u64]) -> Option<MeanType> {
-    match number_at(numbers, MEAN) {
-        0 => Some(MeanType::Arithmetic),
-        1 => Some(MeanType::Harmonic),
-        _ => None,
-    }
-}
 
 // The number of the line's call on what the line lends; none if there is less than that, or no such mean.
 pub(crate) fn call(
@@ -23,7 +14,7 @@ pub(crate) fn call(
     marks: &[u8],
     scores: &mut [f64],
 ) -> Option<u64> {
-    let mean = mean_at(numbers)?;
+    let mean = mean_at(numbers, MEAN)?;
     let lent_words = length_at(numbers, LENT_WORDS, words.len())?;
     let lent_marks = length_at(numbers, LENT_MARKS, marks.len())?;
     let lent_scores = length_at(numbers, LENT_SCORES, scores.len())?;

@@ -1,6 +1,6 @@
 // The options of a line.
-use means::MeanType;
 use options::RaritySimulationOptions;
+use replay_lists::answer::mean_at;
 use replay_lists::columns::number_at;
 use replay_lists::float::float_of;
 
@@ -21,15 +21,6 @@ const MEMORY: usize = 6;
 // Steps, selection and rounds, and no other numbers of a line, have 32 bits.
 fn count_at(numbers: &[u64], at: usize) -> Option<u32> {
     u32::try_from(number_at(numbers, at)).ok()
-}
-
-// The mean of a number, as the list has it.
-fn mean_at(numbers: &[u64], at: usize) -> Option<MeanType> {
-    match number_at(numbers, at) {
-        0 => Some(MeanType::Arithmetic),
-        1 => Some(MeanType::Harmonic),
-        _ => None,
-    }
 }
 
 // None if there are no such options.

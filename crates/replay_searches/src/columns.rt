@@ -10,7 +10,7 @@ pub(crate) const LENT_MARKS: usize = 9;
 
 const PROGRAM: usize = 10;
 
-// The answer and the digest.
+// The answer, with the row between its number and its pc, and the digest.
 pub(crate) const NUMBER: usize = 15;
 
 pub(crate) const ROW: usize = 16;
