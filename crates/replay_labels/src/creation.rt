@@ -1,5 +1,6 @@
 // A new executor, made as a line says.
 use crate::columns::{DIGEST, NUMBER, SIZES};
+use checks::refusal::checked_number;
 use replay_lists::columns::number_at;
 use replay_lists::digest::digest_of;
 use replay_lists::program::Program;
@@ -18,7 +19,7 @@ fn create(numbers: &[u64], program: &Program, words: &mut [u64], marks: &mut [u8
         program.data_address,
         program.data.as_slice(),
     );
-    Some(checked.number())
+    Some(checked_number(checked))
 }
 
 // Whether the creation of the line has the line's number and leaves what the line says.

@@ -1,5 +1,6 @@
 // A run of a row, changed before it as a line says.
 use answers::answer::Answer;
+use executor::run_answer;
 use replay_lists::answer::is_answer;
 use replay_lists::columns::number_at;
 use replay_lists::digest::digest_of;
@@ -59,7 +60,7 @@ fn run_changed(run: &[u64], tape: &[u64], words: &mut [u64], marks: &mut [u8]) -
         step,
         tape,
     );
-    Some(ran.answer())
+    Some(run_answer(ran))
 }
 
 // How many tape words a run takes that has the line's answer and leaves what the line says; none if it does not.

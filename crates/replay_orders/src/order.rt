@@ -1,5 +1,6 @@
 // An order, run at the counter as a line says.
 use crate::columns::{ANSWER, OUTPUT_BYTES, SIZES, STEP, WRITTEN};
+use executor::run_answer;
 use replay_lists::answer;
 use replay_lists::columns::{length_at, number_at};
 use replay_lists::program::Program;
@@ -39,7 +40,6 @@ pub(crate) fn print(
 
 // Whether this is the line's answer.
 pub(crate) fn is_answer(numbers: &[u64], printed: Printed) -> bool {
-    let ran = printed.answer;
-    answer::is_answer(numbers, ANSWER, ran.answer())
+    answer::is_answer(numbers, ANSWER, run_answer(printed.answer))
         && printed.written as u64 == number_at(numbers, WRITTEN)
 }

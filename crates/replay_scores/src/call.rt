@@ -3,6 +3,7 @@ use crate::columns::{LENT_MARKS, LENT_SCORES, LENT_WORDS, LOG, MEAN, MEMORY, ROW
 use replay_lists::answer::mean_at;
 use replay_lists::columns::{length_at, number_at};
 use replay_lists::float::float_of;
+use scoring::scoring_number;
 
 // What stands in the scores before a call: no score is below 1.
 pub(crate) const JUNK_SCORE: f64 = 0.25;
@@ -27,7 +28,7 @@ pub(crate) fn call(
         mean,
         &mut scores[..lent_scores],
     );
-    Some(answer.number())
+    Some(scoring_number(answer))
 }
 
 // Whether the first scores are the line's, and the others as they were.

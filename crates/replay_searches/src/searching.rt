@@ -4,6 +4,7 @@ use answers::answer::Answer;
 use options::RaritySimulationOptions;
 use replay_lists::columns::{length_at, number_at};
 use replay_lists::program::Program;
+use search::answer::search_answer;
 
 // The answer of the program's search; none if there is less than the line lends.
 pub(crate) fn search_line(
@@ -26,13 +27,16 @@ pub(crate) fn search_line(
         program.data.as_slice(),
         program.tape,
     );
-    Some(searched.answer())
+    Some(search_answer(searched))
 }
 
 pub(crate) fn is_answer(numbers: &[u64], answer: Answer) -> bool {
-    answer.number == number_at(numbers, NUMBER)
-        && answer.row == number_at(numbers, ROW)
-        && answer.pc == number_at(numbers, PC)
-        && answer.value == number_at(numbers, VALUE)
-        && answer.used == number_at(numbers, USED)
+    answer
+        == Answer {
+            number: number_at(numbers, NUMBER),
+            row: number_at(numbers, ROW),
+            pc: number_at(numbers, PC),
+            value: number_at(numbers, VALUE),
+            used: number_at(numbers, USED),
+        }
 }

@@ -1,12 +1,11 @@
 // The list of decodings: a word, its form, its registers and its immediate.
-ghost use Rattle.std.specs.Prelude.{IfSome};
-ghost use Rattle.riscu.specs.Registers.{Registers};
+ghost use Rattle.riscu.specs.Registers.{RegistersIn};
 
 use crate::columns::{Column, has_shape};
 use crate::tally::Verdict;
 use riscu::decode::decode;
 use riscu::immediate::imm_b;
-use riscu::instruction::{BType, Decoded, IType, Instruction, JType, RType, SType, UType};
+use riscu::instruction::{BType, IType, Instruction, JType, RType, SType, UType};
 
 const WORD: Column = Column { at: 0, digits: 8 };
 
@@ -101,13 +100,11 @@ pub(crate) fn fields_of(instruction: Instruction) -> Fields {
 }
 
 // The instruction of a word, if it is a valid encoding. It names registers that there are.
+#[tactic(auto, using(riscu::proofs::Registers::decoded_registers))]
 pub(crate) fn instruction_of(word: u32) -> Option<Instruction>
-    ensures { IfSome result (λ i. Registers i) }
+    ensures { RegistersIn result }
 {
-    match decode(word) {
-        Decoded::Valid(instruction) => Some(instruction),
-        Decoded::Invalid => None,
-    }
+    decode(word)
 }
 
 // The line's columns.

@@ -7,7 +7,7 @@ use crate::decodings::{Fields, fields_of, instruction_of};
 use crate::tally::{Departure, Verdict};
 use effects::effect::{Effect, effect_of};
 use riscu::instruction::Instruction;
-use values::Value;
+use values::{Slots, Value};
 
 // The first column of a line is its mark.
 const WORD: Column = Column { at: 2, digits: 8 };
@@ -93,14 +93,11 @@ fn effect_on(line: &[u8], instruction: Instruction, fields: Fields) -> Effect
 {
     let registers = with_register([0; 32], fields.rs1, RS1_VALUE.number(line));
     let registers = with_register(registers, fields.rs2, RS2_VALUE.number(line));
-    let concrete = [1u8; 32];
-    effect_of(
-        &registers,
-        &concrete,
-        instruction,
-        PC.number(line),
-        NO_MEMORY,
-    )
+    let registers = Slots {
+        words: &registers,
+        marks: &[1; 32],
+    };
+    effect_of(registers, instruction, PC.number(line), NO_MEMORY)
 }
 
 // The departure that a line's mark names, in an instruction that can depart so.
