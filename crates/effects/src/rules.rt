@@ -12,14 +12,13 @@ use answers::error::{ExecutorError, NotSupportedReason};
 use answers::outcome::Outcome;
 use riscu::immediate::imm_b;
 use riscu::instruction::INSTRUCTION_SIZE;
-use std::num::wrapping_add_u64;
 use values::Value;
 
 // The pc of the instruction that follows.
 fn following(pc: u64) -> u64
     ensures { result ≡ following_of pc }
 {
-    wrapping_add_u64(pc, INSTRUCTION_SIZE)
+    pc.wrapping_add(INSTRUCTION_SIZE)
 }
 
 fn missing_operand() -> Effect
@@ -101,7 +100,7 @@ pub(crate) fn beq(word: u32, pc: u64, a: Value, b: Value) -> Effect
     };
     if x == y {
         Effect::Jump {
-            next_pc: wrapping_add_u64(pc, imm_b(word)),
+            next_pc: pc.wrapping_add(imm_b(word)),
         }
     } else {
         Effect::Jump {
@@ -113,11 +112,7 @@ pub(crate) fn beq(word: u32, pc: u64, a: Value, b: Value) -> Effect
 pub(crate) fn jal(rd: usize, imm: u64, pc: u64) -> Effect
     ensures { result ≡ jal_of rd imm pc }
 {
-    assign_rd(
-        rd,
-        Value::Concrete(following(pc)),
-        wrapping_add_u64(pc, imm),
-    )
+    assign_rd(rd, Value::Concrete(following(pc)), pc.wrapping_add(imm))
 }
 
 #[tactic(auto, unfolding(crate::specs::Effects::jalr))]
@@ -127,11 +122,7 @@ pub(crate) fn jalr(rd: usize, imm: u64, pc: u64, a: Value) -> Effect
     let Value::Concrete(base) = a else {
         return not_supported(NotSupportedReason::JalrUninitializedBase);
     };
-    assign_rd(
-        rd,
-        Value::Concrete(following(pc)),
-        wrapping_add_u64(base, imm),
-    )
+    assign_rd(rd, Value::Concrete(following(pc)), base.wrapping_add(imm))
 }
 
 // Whether an address names a word of a memory of `memory` words.
@@ -179,7 +170,7 @@ pub(crate) fn ld(rd: usize, imm: u64, pc: u64, a: Value, memory: u64) -> Effect
     let Value::Concrete(base) = a else {
         return not_supported(NotSupportedReason::LdUninitializedBase);
     };
-    load_from(wrapping_add_u64(base, imm), rd, following(pc), memory)
+    load_from(base.wrapping_add(imm), rd, following(pc), memory)
 }
 
 #[tactic(auto, unfolding(crate::specs::Effects::store_to))]
@@ -204,5 +195,5 @@ pub(crate) fn sd(imm: u64, pc: u64, a: Value, value: Value, memory: u64) -> Effe
     let Value::Concrete(base) = a else {
         return not_supported(NotSupportedReason::SdUninitializedBase);
     };
-    store_to(wrapping_add_u64(base, imm), value, following(pc), memory)
+    store_to(base.wrapping_add(imm), value, following(pc), memory)
 }

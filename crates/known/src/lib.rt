@@ -23,7 +23,7 @@ struct Entry {
     ghost decoding: { Some instruction ≡ decoded word },
 }
 
-// An entry for each pc modulo their number.
+// An entry for each place of an instruction, modulo their number.
 #[derive(Clone, Copy)]
 pub struct Known {
     entries: [Entry; ENTRIES],

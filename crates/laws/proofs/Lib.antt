@@ -1,6 +1,5 @@
 pub mod Absurd
 pub mod Choices
-pub mod Clearing
 pub mod Floats
 pub mod Fronts
 pub mod Lists

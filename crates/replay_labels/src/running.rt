@@ -35,7 +35,7 @@ fn put<T: Drop>(places: &mut [T], index: u64, value: T) -> Option<()> {
     Some(())
 }
 
-// Makes the run's change; none if it is no change.
+// Makes the run's change; none if there is no such change or no such place.
 fn change(run: &[u64], words: &mut [u64], marks: &mut [u8]) -> Option<()> {
     let index = number_at(run, INDEX);
     let value = number_at(run, PUT);

@@ -8,6 +8,7 @@ const DIGIT: u8 = b'h';
 
 const ANY: u8 = b'?';
 
+// One more than the largest word.
 const WORDS: u64 = 0x1_0000_0000;
 
 // Where a number stands, and how many digits it has.

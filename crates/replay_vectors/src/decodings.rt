@@ -95,7 +95,10 @@ pub(crate) fn fields_of(instruction: Instruction) -> Fields {
         Instruction::Sltu(t) => r_fields(11, t),
         Instruction::Divu(t) => r_fields(12, t),
         Instruction::Remu(t) => r_fields(13, t),
-        Instruction::Ecall => rd_fields(14, 0, 0),
+        Instruction::Ecall => Fields {
+            form: 14,
+            ..Fields::default()
+        },
     }
 }
 

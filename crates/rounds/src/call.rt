@@ -19,7 +19,7 @@ pub struct Start {
     pub used: usize,
 }
 
-// How a search ends: what it comes to, and how many tape words are used.
+// What runs or a search come to, and how many tape words are used.
 #[derive(Clone, Copy)]
 pub struct Ended {
     pub finding: Finding,

@@ -1,4 +1,4 @@
-// The row of one executor, lent as two slices: its words and its marks. For the layers above.
+// The row of one executor: its words and its marks, lent as two slices or as a view of them. For the layers above.
 #![tactic(auto)]
 
 pub mod limits;

@@ -2,11 +2,11 @@
 use Rattle.std.proofs.Common.{◌≡◌, sym, ap, ◌∙◌, Bool, true, false, ◌&&◌, List, [], ℕ, ◌+◌, ◌-◌, ◌≤◌, ◌<◌, add-one, arith, Float, length, take, drop, replicate, drop_of_length-le, drop-cons, Ok, Err}
 use Rattle.laws.proofs.Fronts.{front_alike}
 use Rattle.rows.specs.Limits.{most_rows}
-use Rattle.rows.specs.Rows.{row}
+use Rattle.rows.specs.Rows.{Row, row}
 use Rattle.rows.specs.Valid.{valid_row}
 use Rattle.store.specs.declared.layout.Layout.{Layout}
-use Rattle.store.specs.Store.{Fit, rows_of}
-use Rattle.store.proofs.Rows.{lent, lent_row, length_rows}
+use Rattle.store.specs.Store.{Fit, rows_of, nth_row}
+use Rattle.store.proofs.Rows.{length_rows}
 use Rattle.means.specs.declared.MeanType.{MeanType}
 use Rattle.rarity.specs.Scores.{scores_of, flagged_scores, are_ordered}
 use Rattle.rarity.proofs.Among.{all_taking}
@@ -14,13 +14,13 @@ use Rattle.scoring.specs.Entry.{all_valid, ordered_answer}
 use Rattle.scoring.specs.declared.ScoringError.TheVariants.{ScoresUnordered}
 
 -- the rows from r on are valid just where row r is and those after it
-module _ {s : Layout} {words marks : List ℕ} (f : Fit s words marks) (r : ℕ) (h : r < s.rows) {t : Bool}
-    (d : t ≡ valid_row (row (lent s.words r words) (lent s.marks r marks))) where
+module _ {s : Layout} {words marks : List ℕ} (f : Fit s words marks) (r : ℕ) (h : r < s.rows) {x : Row}
+    (o : x ≡ nth_row (rows_of s words marks) r) {t : Bool} (d : t ≡ valid_row x) where
   valid_turn : all_valid (drop r (rows_of s words marks)) ≡ t && all_valid (drop (r + 1) (rows_of s words marks))
   unfolding all_valid
   valid_turn =
       let l : r < length (rows_of s words marks) = omega (arith, length_rows s.rows s.words s.marks words marks) in
-      rw (drop-cons (rows_of s words marks) r (row [] []) l, add-one, d, lent_row f r h)
+      rw (drop-cons (rows_of s words marks) r (row [] []) l, add-one, d, o)
 
   pub valid_passed : t ≡ true → all_valid (drop (r + 1) (rows_of s words marks)) ≡ all_valid (drop r (rows_of s words marks))
   valid_passed e = sym (valid_turn ∙ rw e)

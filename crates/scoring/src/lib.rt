@@ -18,6 +18,7 @@ use means::MeanType;
 use rarity::{are_ordered, score_rows};
 use rows::limits::MOST_ROWS;
 use store::layout::Layout;
+use store::row::row_in;
 
 // Why rows are not scored.
 #[derive(Clone, Copy)]
@@ -52,12 +53,8 @@ fn all_valid(words: &[u64], marks: &[u8], store: Layout) -> bool
     ensures { result ≡ all_valid (rows_of store words.now marks.now) }
 {
     for r in 0..store.rows {
-        let word = r * store.words;
-        let mark = r * store.marks;
-        if !valid_row(
-            &words[word..word + store.words],
-            &marks[mark..mark + store.marks],
-        ) {
+        let row = row_in(words, marks, store, r);
+        if !valid_row(row.words, row.marks) {
             return false;
         }
     }

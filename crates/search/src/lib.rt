@@ -63,7 +63,7 @@ fn check_call(
     check_segments(memory, code_address, code, data_address, data)
 }
 
-// The rounds, from a zeroed store on: from what another would start, unless one of them ends the search.
+// The rounds, from a zeroed store on. Answers what another round would start from, or how one of them ended the search.
 fn search_rounds(
     words: &mut [u64],
     marks: &mut [u8],
@@ -84,7 +84,7 @@ fn search_rounds(
     Ok(start)
 }
 
-// How a search ends: after its last round with nothing found.
+// How a search ends: as the round says that ended it, or after the last with nothing found.
 fn ended_of(rounds: Result<Start, Ended>) -> Ended
     ensures { result ≡ ended_of rounds }
 {

@@ -5,8 +5,8 @@ ghost use Rattle.store.specs.Parts.{part_copied};
 
 use crate::layout::Layout;
 
-// `count` elements from place `from` on are copied to place `to` on. A loop, which the compiler makes vector code: the slice's
-// own copy_from_slice comes to a memmove, and a host need have no more than memcpy and memset; copy_within takes a fifth longer.
+// `count` elements from place `from` on are copied to place `to` on. A loop, which the compiler makes vector code: within one slice
+// copy_from_slice comes to a memmove, and a host need have no more than memcpy and memset; copy_within takes a fifth longer.
 fn copy_part<T: Copy>(all: &mut [T], from: usize, to: usize, count: usize)
     requires apart { from + count ≤ to }
     requires within { to + count ≤ length all.old }
