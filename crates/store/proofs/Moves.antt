@@ -6,7 +6,7 @@ use Rattle.std.proofs.lemmas.List.{take-append-le, drop-append-le}
 use borrow.Rule.Slice.PartMut.{put_mid}
 use Rattle.rows.specs.Rows.{Row, row}
 use Rattle.store.specs.declared.layout.Layout.{Layout}
-use Rattle.store.specs.Store.{cut, rows_of, nth_row, zero_row, row_copied, rows_swapped, rows_zeroed, Fit}
+use Rattle.store.specs.Store.{cut, nth_row, zero_row, row_copied, rows_swapped, rows_zeroed}
 use Rattle.store.specs.Parts.{part_copied, parts_swapped}
 use Rattle.store.proofs.Rows.{row_end, row_get, row_put, part_length}
 
@@ -113,29 +113,26 @@ swap_self i p rows e =
     sym (ap (λ (k : ℕ). set (set rows k (nth_row rows p)) p (nth_row rows k)) e ∙ set-set rows p (nth_row rows p) (nth_row rows p) ∙ set-get_or rows p (row [] []))
 
 -- the rows from `from` to r are zero, and the others as before
-pub record Zeroed (s : Layout) (from r : ℕ) (before : List Row) (words marks : List ℕ) : Type 0 where
-  pub fit : Fit s words marks
+pub record Zeroed (s : Layout) (from r : ℕ) (before now : List Row) : Type 0 where
   pub past : from ≤ r
   pub within : r ≤ s.rows
-  pub zeros : rows_of s words marks ≡ (take from before ++ replicate (r - from) (zero_row s)) ++ drop r before
+  pub zeros : now ≡ (take from before ++ replicate (r - from) (zero_row s)) ++ drop r before
 
-module _ (s : Layout) (from : ℕ) where
-  pub zero_none : (words marks : List ℕ) → from ≤ s.rows → Fit s words marks → Zeroed s from from (rows_of s words marks) words marks
-  zero_none words marks h f =
-      let rows = rows_of s words marks in
+module _ (s : Layout) (from : ℕ) (before : List Row) where
+  pub zero_none : from ≤ s.rows → Zeroed s from from before before
+  zero_none h =
       let none : from - from ≡ 0 = omega arith in
       record {
-        fit = f;
         past = omega arith;
         within = h;
-        zeros = sym (ap (λ (k : ℕ). (take from rows ++ replicate k (zero_row s)) ++ drop from rows) none
-            ∙ ap (λ (l : List Row). l ++ drop from rows) (append-nil (take from rows)) ∙ take-append-drop from rows);
+        zeros = sym (ap (λ (k : ℕ). (take from before ++ replicate k (zero_row s)) ++ drop from before) none
+            ∙ ap (λ (l : List Row). l ++ drop from before) (append-nil (take from before)) ∙ take-append-drop from before);
       }
 
   -- row r too
-  zero_more : (before : List Row) (z : Row) (r : ℕ) → from ≤ r → r < length before
+  zero_more : (z : Row) (r : ℕ) → from ≤ r → r < length before
       → set ((take from before ++ replicate (r - from) z) ++ drop r before) r z ≡ (take from before ++ replicate (r + 1 - from) z) ++ drop (r + 1) before
-  zero_more before z r h l =
+  zero_more z r h l =
       let head = take from before ++ replicate (r - from) z in
       let len : length head ≡ r =
       omega (arith, length-append (take from before) (replicate (r - from) z), length-take-le from before (omega arith), length-replicate (r - from) z) in
@@ -148,19 +145,17 @@ module _ (s : Layout) (from : ℕ) where
       ∙ ap (λ (k : List Row). take from before ++ k) (replicate-append-replicate (r - from) 1 z ∙ ap (λ (k : ℕ). replicate k z) more))
       ∙ ap (λ (k : ℕ). (take from before ++ replicate (r + 1 - from) z) ++ drop k before) (sym (add-one r))
 
-  pub zero_on : (before : List Row) (words marks words' marks' : List ℕ) (r : ℕ) → length before ≡ s.rows → r < s.rows → Fit s words' marks'
-      → rows_of s words' marks' ≡ set (rows_of s words marks) r (zero_row s) → Zeroed s from r before words marks → Zeroed s from (r + 1) before words' marks'
-  zero_on before words marks words' marks' r l h f e c =
+  pub zero_on : (now now' : List Row) (r : ℕ) → length before ≡ s.rows → r < s.rows
+      → now' ≡ set now r (zero_row s) → Zeroed s from r before now → Zeroed s from (r + 1) before now'
+  zero_on now now' r l h e c =
       record {
-        fit = f;
         past = omega (arith, c.past);
         within = omega arith;
-        zeros = e ∙ ap (λ (k : List Row). set k r (zero_row s)) c.zeros ∙ zero_more before (zero_row s) r c.past (subst (λ (k : ℕ). r < k) (sym l) h);
+        zeros = e ∙ ap (λ (k : List Row). set k r (zero_row s)) c.zeros ∙ zero_more (zero_row s) r c.past (subst (λ (k : ℕ). r < k) (sym l) h);
       }
 
-  pub zero_all : (before : List Row) (words marks : List ℕ) (r : ℕ) → length before ≡ s.rows → s.rows ≤ r → Zeroed s from r before words marks
-      → rows_of s words marks ≡ rows_zeroed s from before
-  zero_all before words marks r l h c =
+  pub zero_all : (now : List Row) (r : ℕ) → length before ≡ s.rows → s.rows ≤ r → Zeroed s from r before now → now ≡ rows_zeroed s from before
+  zero_all now r l h c =
       let e : r ≡ s.rows = omega (arith, c.within) in
       c.zeros
       ∙ ap (λ (k : List Row). (take from before ++ replicate (r - from) (zero_row s)) ++ k) (drop_of_length-le before {i = r} (omega arith))

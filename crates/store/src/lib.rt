@@ -3,6 +3,6 @@
 
 pub mod copy;
 pub mod layout;
-pub mod row;
 pub mod swap;
+pub mod view;
 pub mod zero;

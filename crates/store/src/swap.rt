@@ -1,9 +1,11 @@
 // Two rows that change places.
 ghost use Rattle.std.specs.Prelude.{◌≡◌, ◌+◌, ◌≤◌, ◌<◌, length};
-ghost use Rattle.store.specs.Store.{Fit, rows_of, rows_swapped};
+ghost use Rattle.store.specs.Store.{rows_swapped};
 ghost use Rattle.store.specs.Parts.{parts_swapped};
+ghost use Rattle.store.specs.Lent.{rows_lent, SameStore};
 
 use crate::layout::Layout;
+use crate::view::StoreMut;
 
 // `count` elements from place a on and from place b on change places.
 fn swap_parts<T>(all: &mut [T], a: usize, b: usize, count: usize)
@@ -15,15 +17,18 @@ fn swap_parts<T>(all: &mut [T], a: usize, b: usize, count: usize)
     front[a..a + count].swap_with_slice(&mut back[..count]);
 }
 
-// Rows a and b change places; they may be one row.
-pub fn swap_rows(words: &mut [u64], marks: &mut [u8], store: Layout, a: usize, b: usize)
-    requires fit { Fit store words.old marks.old }
-    requires in_order { a ≤ b }
-    requires within { b < store.rows }
-    ensures { rows_of store words.new marks.new ≡ rows_swapped a b (rows_of store words.old marks.old) }
-{
-    if a < b {
-        swap_parts(words, a * store.words, b * store.words, store.words);
-        swap_parts(marks, a * store.marks, b * store.marks, store.marks);
+impl StoreMut<'_> {
+    // Rows a and b change places; they may be one row.
+    pub fn swap_rows(&mut self, a: usize, b: usize)
+        requires in_order { a ≤ b }
+        requires within { b < self.old.layout.rows }
+        ensures rows_after { rows_lent self.new ≡ rows_swapped a b (rows_lent self.old) }
+        ensures same_store { SameStore self.old self.new }
+    {
+        if a < b {
+            let Layout { words, marks, .. } = self.layout;
+            swap_parts(self.words, a * words, b * words, words);
+            swap_parts(self.marks, a * marks, b * marks, marks);
+        }
     }
 }

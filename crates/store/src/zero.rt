@@ -1,39 +1,30 @@
 // Rows set to zero.
-ghost use Rattle.std.specs.Prelude.{◌≡◌, ◌≤◌, ◌<◌, length, set};
-ghost use Rattle.rows.specs.Rows.{row, blank, Shape};
-ghost use Rattle.store.specs.Store.{Fit, rows_of, zero_row, rows_zeroed};
+ghost use Rattle.std.specs.Prelude.{◌≡◌, ◌≤◌, ◌<◌, set};
+ghost use Rattle.store.specs.Store.{zero_row, rows_zeroed};
+ghost use Rattle.store.specs.Lent.{rows_lent, SameStore};
 
 use crate::layout::Layout;
-use rows::row::RowMut;
+use crate::view::StoreMut;
 
-fn clear(words: &mut [u64], marks: &mut [u8])
-    requires { Shape words.old marks.old }
-    ensures { row words.new marks.new ≡ blank (length words.old) (length marks.old) }
-{
-    let mut row = RowMut { words, marks };
-    row.clear();
-}
+impl StoreMut<'_> {
+    fn zero_row(&mut self, r: usize)
+        requires within { r < self.old.layout.rows }
+        ensures rows_after { rows_lent self.new ≡ set (rows_lent self.old) r (zero_row self.old.layout) }
+        ensures same_store { SameStore self.old self.new }
+    {
+        let Layout { words, marks, .. } = self.layout;
+        self.words[r * words..r * words + words].fill(0);
+        self.marks[r * marks..r * marks + marks].fill(0);
+    }
 
-fn zero_row(words: &mut [u64], marks: &mut [u8], store: Layout, r: usize)
-    requires fit { Fit store words.old marks.old }
-    requires within { r < store.rows }
-    ensures { rows_of store words.new marks.new ≡ set (rows_of store words.old marks.old) r (zero_row store) }
-{
-    let from_word = r * store.words;
-    let from_mark = r * store.marks;
-    clear(
-        &mut words[from_word..from_word + store.words],
-        &mut marks[from_mark..from_mark + store.marks],
-    );
-}
-
-// The rows from `from` on become zero.
-pub fn zero_rows(words: &mut [u64], marks: &mut [u8], store: Layout, from: usize)
-    requires fit { Fit store words.old marks.old }
-    requires within { from ≤ store.rows }
-    ensures { rows_of store words.new marks.new ≡ rows_zeroed store from (rows_of store words.old marks.old) }
-{
-    for r in from..store.rows {
-        zero_row(words, marks, store, r);
+    // The rows from `from` on become zero.
+    pub fn zero_rows(&mut self, from: usize)
+        requires within { from ≤ self.old.layout.rows }
+        ensures rows_after { rows_lent self.new ≡ rows_zeroed self.old.layout from (rows_lent self.old) }
+        ensures same_store { SameStore self.old self.new }
+    {
+        for r in from..self.layout.rows {
+            self.zero_row(r);
+        }
     }
 }
