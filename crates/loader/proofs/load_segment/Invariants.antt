@@ -7,5 +7,5 @@ use Rattle.loader.proofs.load_segment.Given as goal
 abbrev pub invariant-loop-k : goal.invariant-loop-k
 invariant-loop-k l = record {
   same_slices : SameSlices l.initial.row l.row;
-  left : loaded_from (l.n - l.k) l.k l.m l.bytes (lent l.row) ≡ loaded_from (l.n - l.initial.k) l.initial.k l.m l.bytes (lent l.initial.row);
+  left : loaded_from (l.n - l.k) l.k l.m l.segment.bytes.now (lent l.row) ≡ loaded_from (l.n - l.initial.k) l.initial.k l.m l.segment.bytes.now (lent l.initial.row);
 }
