@@ -1,15 +1,14 @@
-// What a search goes by. The slices that it reads, code, data and tape, travel beside these.
+// What a search goes by.
 use answers::finding::Finding;
+use loader::Program;
 use options::RaritySimulationOptions;
-use store::layout::Layout;
 
-// A search call without its slices: what is asked, how the store is cut, and where code and data are loaded.
+// A search call but for its store: what is asked, of which program, and the words that are drawn.
 #[derive(Clone, Copy)]
-pub struct Call {
+pub struct Call<'a> {
     pub options: RaritySimulationOptions,
-    pub store: Layout,
-    pub code_address: u64,
-    pub data_address: u64,
+    pub program: Program<'a>,
+    pub tape: &'a [u64],
 }
 
 // From what a round starts: so many rows kept at the front of the store, and so many tape words used.
