@@ -1,6 +1,6 @@
 // A run of an executor up to a limit of instructions.
 ghost use Rattle.std.specs.Prelude.{◌≡◌, ◌+◌, ◌-◌, ◌<◌, ◌^◌};
-ghost use Rattle.rows.specs.Rows.{row, Shape, depth_of, limit_of, memory_in, memory_words};
+ghost use Rattle.rows.specs.Rows.{row, Shape, depth_of, limit_of, memory_in};
 ghost use Rattle.rows.specs.Lent.{lent, SameSlices};
 ghost use Rattle.machine.specs.Runs.{run_of, finished_as};
 ghost use Rattle.machine.specs.Pauses.{halted_as, paused_of};
@@ -30,9 +30,9 @@ pub struct Paused {
     pub used: usize,
 }
 
-// Runs until depth is at the limit; write calls are handed out, or completed: their bytes go nowhere then. There is one loop
-// for both, since a second one, or a second caller of an instruction, makes either of them slower by half.
-fn run_to(
+// The loop of a run.
+#[inline(always)]
+fn run_loop(
     row: &mut RowMut,
     limit: u64,
     tape: &[u64],
@@ -68,20 +68,24 @@ fn progress_of(step: Step) -> Progress
     }
 }
 
-fn run_row(row: &mut RowMut, step: u32, tape: &[u64], used: usize) -> Ran
-    requires { limit_of (lent row.old) + step < 2 ^ 64 }
-    ensures result_after { finished_as row.new.words.now row.new.marks.now result ≡ run_of step tape.now used (lent row.old) }
-    ensures same_slices { SameSlices row.old row.new }
+// Runs until depth is at the limit; write calls are handed out, or completed: their bytes go nowhere then. There is one loop
+// for both, since a second one, or a second caller of an instruction, makes either of them slower by half; and the view of the
+// row is made here, beside the loop, since behind a reference it makes a run slower by a quarter.
+fn run_to(
+    words: &mut [u64],
+    marks: &mut [u8],
+    limit: u64,
+    tape: &[u64],
+    used: usize,
+    known: &mut Known,
+    handing: bool,
+) -> Paused
+    requires { Shape words.old marks.old }
+    ensures { halted_as words.new marks.new result
+        ≡ halted_for handing (limit - depth_of (row words.old marks.old)) tape.now used (row words.old marks.old) }
 {
-    let limit = row.words[LIMIT] + step as u64;
-    row.words[LIMIT] = limit;
-    let mut known = Known::new();
-    let paused = run_to(row, limit, tape, used, &mut known, false);
-    Ran {
-        progress: progress_of(paused.step),
-        pc: paused.pc,
-        used: paused.used,
-    }
+    let mut row = RowMut { words, marks };
+    run_loop(&mut row, limit, tape, used, known, handing)
 }
 
 // Runs at most `step` instructions more.
@@ -91,26 +95,15 @@ pub fn run(words: &mut [u64], marks: &mut [u8], step: u32, tape: &[u64], used: u
     ensures { finished_as words.new marks.new result
         ≡ run_of step tape.now used (row words.old marks.old) }
 {
-    let mut row = RowMut { words, marks };
-    run_row(&mut row, step, tape, used)
-}
-
-fn run_row_to_write(
-    row: &mut RowMut,
-    step: u32,
-    tape: &[u64],
-    used: usize,
-    known: &mut Known,
-) -> Paused
-    requires { limit_of (lent row.old) + step < 2 ^ 64 }
-    ensures result_after { halted_as row.new.words.now row.new.marks.now result
-        ≡ paused_of step tape.now used (lent row.old) }
-    ensures handed_out { HandedOut (memory_words (lent row.old)) result.step }
-    ensures same_slices { SameSlices row.old row.new }
-{
-    let limit = row.words[LIMIT] + step as u64;
-    row.words[LIMIT] = limit;
-    run_to(row, limit, tape, used, known, true)
+    let limit = words[LIMIT] + step as u64;
+    words[LIMIT] = limit;
+    let mut known = Known::new();
+    let paused = run_to(words, marks, limit, tape, used, &mut known, false);
+    Ran {
+        progress: progress_of(paused.step),
+        pc: paused.pc,
+        used: paused.used,
+    }
 }
 
 // Runs at most `step` instructions more, up to a write call, which the caller completes by `write_to`, or not at all. What the run decodes
@@ -129,6 +122,7 @@ pub fn run_to_write(
         ≡ paused_of step tape.now used (row words.old marks.old) }
     ensures handed_out { HandedOut (memory_in marks.old) result.step }
 {
-    let mut row = RowMut { words, marks };
-    run_row_to_write(&mut row, step, tape, used, known)
+    let limit = words[LIMIT] + step as u64;
+    words[LIMIT] = limit;
+    run_to(words, marks, limit, tape, used, known, true)
 }

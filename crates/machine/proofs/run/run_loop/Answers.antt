@@ -4,7 +4,7 @@ use Rattle.rows.specs.Lent.{lent}
 use Rattle.calls.specs.Calls.{Called}
 use Rattle.machine.proofs.Kept.{stepped_by_depth}
 use Rattle.machine.proofs.Turns.{at_limit, turned, halted}
-use Rattle.machine.proofs.run.run_to.Goals as goal
+use Rattle.machine.proofs.run.run_loop.Goals as goal
 
 pub loop-row-smaller : goal.loop-row-smaller
 loop-row-smaller c =

@@ -2,7 +2,7 @@ use Rattle.std.proofs.Common.{◌≡◌, ◌-◌}
 use Rattle.rows.specs.Rows.{depth_of}
 use Rattle.rows.specs.Lent.{lent, SameSlices}
 use Rattle.machine.specs.Handing.{halted_for}
-use Rattle.machine.proofs.run.run_to.Given as goal
+use Rattle.machine.proofs.run.run_loop.Given as goal
 
 -- running on comes to what the whole run would have come to
 abbrev pub invariant-loop-row : goal.invariant-loop-row
