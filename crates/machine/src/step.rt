@@ -3,9 +3,9 @@ ghost use Rattle.std.specs.Prelude.{◌≡◌, ◌+◌, ◌<◌, ◌^◌, Some};
 ghost use Rattle.riscu.specs.Registers.{Registers};
 ghost use Rattle.rows.specs.Rows.{depth_of};
 ghost use Rattle.rows.specs.Lent.{seen, lent, SameSlices};
-ghost use Rattle.calls.specs.Calls.{step_to};
+ghost use Rattle.calls.specs.Calls.{step_to, system};
 ghost use Rattle.machine.specs.Steps.{half_at, fetched, followed, executed, deeper};
-ghost use Rattle.machine.specs.Handing.{handed, handed_on, stepped_by};
+ghost use Rattle.machine.specs.Handing.{handed_on, stepped_by};
 
 use answers::error::{ExecutorError, NotSupportedReason};
 use answers::outcome::Outcome;
@@ -58,33 +58,39 @@ fn fetch_next(row: &mut RowMut) -> Result<u32, ExecutorError>
     fetch(row.view())
 }
 
-#[tactic(auto, unfolding(crate::specs::Steps::followed))]
-fn follow(row: &mut RowMut, next: Next, tape: &[u64], used: &mut usize) -> Step
-    ensures row_after { step_to result used.new (lent row.new) ≡ followed next tape.now used.old (lent row.old) }
+// A system call; a write call is handed out, or completed at once: its bytes go nowhere then. Each arm says what it comes to: with
+// one arm for the steps that stay, the compiler asks after each instruction whether to go on, and a run is slower by a quarter.
+#[tactic(auto, unfolding(crate::specs::Handing::handed))]
+fn call(row: &mut RowMut, tape: &[u64], used: &mut usize, handing: bool) -> Step
+    ensures row_after { step_to result used.new (lent row.new) ≡ handed_on handing (system tape.now used.old (lent row.old)) }
+    ensures same_slices { SameSlices row.old row.new }
+{
+    match execute_ecall(row, tape, used) {
+        Step::Running => Step::Running,
+        Step::Write { buffer, size } => {
+            if handing {
+                return Step::Write { buffer, size };
+            }
+            complete_write(row, size);
+            Step::Running
+        }
+        Step::Ended(outcome) => Step::Ended(outcome),
+    }
+}
+
+#[tactic(auto, unfolding(crate::specs::Steps::followed, crate::specs::Handing::handed))]
+fn follow(row: &mut RowMut, next: Next, tape: &[u64], used: &mut usize, handing: bool) -> Step
+    ensures row_after { step_to result used.new (lent row.new)
+        ≡ handed_on handing (followed next tape.now used.old (lent row.old)) }
     ensures same_slices { SameSlices row.old row.new }
 {
     match next {
         Next::Instruction => Step::Running,
-        Next::Call => execute_ecall(row, tape, used),
+        Next::Call => call(row, tape, used, handing),
         Next::End(outcome) => Step::Ended(outcome),
     }
 }
 
-#[tactic(auto, unfolding(crate::specs::Handing::handed))]
-fn settle(row: &mut RowMut, step: Step, handing: bool) -> Step
-    ensures row_after { (used : _) → step_to result used (lent row.new) ≡ handed handing step used (lent row.old) }
-    ensures same_slices { SameSlices row.old row.new }
-{
-    match step {
-        Step::Write { buffer: _, size } if !handing => {
-            complete_write(row, size);
-            Step::Running
-        }
-        _ => step,
-    }
-}
-
-// An instruction; a write call is handed out, or completed at once: its bytes go nowhere then.
 #[tactic(auto, unfolding(crate::specs::Steps::executed))]
 fn advance(
     row: &mut RowMut,
@@ -99,8 +105,7 @@ fn advance(
     ensures same_slices { SameSlices row.old row.new }
 {
     let next = execute(row, instruction);
-    let step = follow(row, next, tape, used);
-    settle(row, step, handing)
+    follow(row, next, tape, used, handing)
 }
 
 // The next instruction, fetched, decoded and carried out.
