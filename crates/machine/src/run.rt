@@ -70,7 +70,7 @@ fn progress_of(step: Step) -> Progress
 
 // Runs until depth is at the limit; write calls are handed out, or completed: their bytes go nowhere then. There is one loop
 // for both, since a second one, or a second caller of an instruction, makes either of them slower by half; and the view of the
-// row is made here, beside the loop, since a run reads one behind a reference anew at each instruction, and is slower by an eighth.
+// row is made here, beside the loop, since a run reads one behind a reference anew at each instruction, and is slower by a sixth.
 fn run_to(
     words: &mut [u64],
     marks: &mut [u8],

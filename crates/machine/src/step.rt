@@ -59,7 +59,7 @@ fn fetch_next(row: &mut RowMut) -> Result<u32, ExecutorError>
 }
 
 // A system call; a write call is handed out, or completed at once: its bytes go nowhere then. Each arm says what it comes to: with
-// one arm for the steps that stay, the compiler asks after each instruction whether to go on, and a run is slower by a quarter.
+// one arm for the steps that stay, the compiler asks after each instruction whether to go on, and a run is slower by a fifth.
 #[tactic(auto, unfolding(crate::specs::Handing::handed))]
 fn call(row: &mut RowMut, tape: &[u64], used: &mut usize, handing: bool) -> Step
     ensures row_after { step_to result used.new (lent row.new) ≡ handed_on handing (system tape.now used.old (lent row.old)) }
