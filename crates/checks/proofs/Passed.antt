@@ -1,6 +1,6 @@
 -- What an entry knows from a test that passed.
 use Rattle.std.proofs.Common.{◌≡◌, true, ◌&&◌, ℕ, ◌+◌, ◌*◌, ◌/◌, ◌%◌, ◌^◌, ◌<◌, ◌≤◌, arith, eqb-true, leb-true, ne_eqb, eqb, leb}
-use mathlib.Core.Bool.{and-eq-true_iff}
+use Rattle.laws.proofs.Choices.{parts}
 use Rattle.rows.specs.Limits.{most_rows, most_memory, most_log, memory_unit, most_memory_bytes}
 use Rattle.rows.specs.Rows.{Row, row_words, row_marks, limit_of}
 use Rattle.rows.specs.Valid.{sound_row, valid_row}
@@ -10,13 +10,13 @@ pub memory_size_passed : (bytes : ℕ) → is_memory_size bytes ≡ true → (by
 memory_size_passed bytes h =
     let whole = eqb (bytes % memory_unit) 0 in
     let enough = leb memory_unit bytes in
-    let outer = (and-eq-true_iff (whole && enough) (leb bytes most_memory_bytes)).0 h in
-    let inner = (and-eq-true_iff whole enough).0 outer.0 in
+    let outer = parts (whole && enough) (leb bytes most_memory_bytes) h in
+    let inner = parts whole enough outer.0 in
     (eqb-true _ _ inner.0, leb-true _ _ inner.1, leb-true _ _ outer.1)
 
 pub amount_passed : (states : ℕ) → is_amount_of_states states ≡ true → (1 ≤ states) × (states ≤ most_rows)
 amount_passed states h =
-    let both = (and-eq-true_iff (leb 1 states) (leb states most_rows)).0 h in
+    let both = parts (leb 1 states) (leb states most_rows) h in
     (leb-true _ _ both.0, leb-true _ _ both.1)
 
 pub log_size_passed : (l : ℕ) → is_log_size l ≡ true → l ≤ most_log
@@ -24,7 +24,7 @@ log_size_passed l h = leb-true _ _ h
 
 pub lengths : (rows w l words marks : ℕ) → are_lengths rows w l words marks ≡ true → (words ≡ rows * row_words w l) × (marks ≡ rows * row_marks w)
 lengths rows w l words marks h =
-    let both = (and-eq-true_iff (eqb words (rows * row_words w l)) (eqb marks (rows * row_marks w))).0 h in
+    let both = parts (eqb words (rows * row_words w l)) (eqb marks (rows * row_marks w)) h in
     (eqb-true _ _ both.0, eqb-true _ _ both.1)
 
 -- what the tests of numbers 1, 2 and 5 say of a store of so many rows, and of its two lengths
@@ -44,8 +44,8 @@ inside w address bytes h k = leb-true _ _ (rw (ne_eqb bytes 0 (λ e. omega arith
 
 pub valid_sound : (r : Row) → valid_row r ≡ true → sound_row r ≡ true
 unfolding valid_row
-valid_sound r h = ((and-eq-true_iff (sound_row r) (leb (limit_of r) (2 ^ 63))).0 h).0
+valid_sound r h = (parts (sound_row r) (leb (limit_of r) (2 ^ 63)) h).0
 
 pub valid_limit : (r : Row) → valid_row r ≡ true → limit_of r ≤ 2 ^ 63
 unfolding valid_row
-valid_limit r h = leb-true _ _ ((and-eq-true_iff (sound_row r) (leb (limit_of r) (2 ^ 63))).0 h).1
+valid_limit r h = leb-true _ _ (parts (sound_row r) (leb (limit_of r) (2 ^ 63)) h).1

@@ -8,17 +8,17 @@ ghost use Rattle.checks.specs.Tests.{test, checked_by};
 use rows::limits::{MEMORY_UNIT, MOST_LOG, MOST_MEMORY_BYTES, MOST_ROWS};
 use rows::row::{HEADER, REGISTERS};
 
-// Why an entry refuses, in the order in which it tests.
+// Why an entry refuses, in the order in which it tests, each with its number.
 #[derive(Clone, Copy)]
 pub enum Refusal {
-    MemorySize,
-    AmountOfStates,
-    CopyRatio,
-    LogSize,
-    LentLengths,
-    SegmentLength,
-    SegmentEnd,
-    InvalidRow,
+    MemorySize = 1,
+    AmountOfStates = 2,
+    CopyRatio = 3,
+    LogSize = 4,
+    LentLengths = 5,
+    SegmentLength = 6,
+    SegmentEnd = 7,
+    InvalidRow = 9,
 }
 
 impl Refusal {
@@ -26,16 +26,7 @@ impl Refusal {
     pub fn number(self) -> u64
         ensures { result ≡ refusal_number self }
     {
-        match self {
-            Refusal::MemorySize => 1,
-            Refusal::AmountOfStates => 2,
-            Refusal::CopyRatio => 3,
-            Refusal::LogSize => 4,
-            Refusal::LentLengths => 5,
-            Refusal::SegmentLength => 6,
-            Refusal::SegmentEnd => 7,
-            Refusal::InvalidRow => 9,
-        }
+        self as u64
     }
 }
 

@@ -1,9 +1,9 @@
 // Number 9: whether a lent row is one that an executor can have.
 ghost use Rattle.std.specs.Prelude.{◌≡◌, ◌+◌, ◌≤◌, length, drop};
-ghost use Rattle.rows.specs.Rows.{row, Shape, header};
+ghost use Rattle.rows.specs.Lent.{seen};
 ghost use Rattle.rows.specs.Valid.{slot_valid, slots_valid, all_zero, zero_register, sound_row, valid_row};
 
-use rows::row::{HEADER, LIMIT, LOG_COUNT};
+use rows::row::{HEADER, LIMIT, LOG_COUNT, RowRef};
 
 // The largest limit from which a run of any 32-bit number of instructions can start.
 const MOST_LIMIT: u64 = 0x8000_0000_0000_0000;
@@ -30,32 +30,30 @@ fn all_zero(words: &[u64]) -> bool
     words.iter().all(|word| *word == 0)
 }
 
-fn zero_register(words: &[u64], marks: &[u8]) -> bool
-    requires { Shape words.now marks.now }
-    ensures { result ≡ zero_register (row words.now marks.now) }
+fn zero_register(row: RowRef) -> bool
+    ensures { result ≡ zero_register (seen row.entry) }
 {
-    marks[0] == 1 && words[HEADER] == 0
+    row.marks[0] == 1 && row.words[HEADER] == 0
 }
 
 #[tactic(auto, unfolding(rows::specs::Valid::sound_row))]
-fn sound_row(words: &[u64], marks: &[u8]) -> bool
-    requires { Shape words.now marks.now }
-    ensures { result ≡ sound_row (row words.now marks.now) }
+fn sound_row(row: RowRef) -> bool
+    ensures { result ≡ sound_row (seen row.entry) }
 {
+    let RowRef { words, marks } = row;
     let log = marks.len() + HEADER;
     let room = (words.len() - log) as u64;
     let count = words[LOG_COUNT];
     slots_valid(&words[HEADER..], marks)
         && count <= room
         && all_zero(&words[log + count as usize..])
-        && zero_register(words, marks)
+        && zero_register(row)
 }
 
 // The whole test.
 #[tactic(auto, unfolding(rows::specs::Valid::valid_row))]
-pub fn valid_row(words: &[u64], marks: &[u8]) -> bool
-    requires { Shape words.now marks.now }
-    ensures { result ≡ valid_row (row words.now marks.now) }
+pub fn valid_row(row: RowRef) -> bool
+    ensures { result ≡ valid_row (seen row.entry) }
 {
-    sound_row(words, marks) && words[LIMIT] <= MOST_LIMIT
+    sound_row(row) && row.words[LIMIT] <= MOST_LIMIT
 }

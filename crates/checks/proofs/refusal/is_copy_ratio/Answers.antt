@@ -1,5 +1,6 @@
 use Rattle.std.proofs.Common.{◌≡◌, refl, pos}
-use lib.Ieee.{of_bits, of_int, binary64}
+use Rattle.std.specs.Float.{binary64}
+use Rattle.std.specs.Float.Ieee.{of_bits, of_int}
 use Rattle.checks.proofs.refusal.is_copy_ratio.Goals as goal
 
 -- the literals 0.0 and 1.0
