@@ -26,26 +26,21 @@ pub struct Sheet {
     pub tape_words: usize,
 }
 
-// Why some bytes are no sheet that the program takes.
+// Why some bytes are no sheet that the program takes, each with its number.
 #[derive(Clone, Copy)]
 pub enum SheetError {
-    SheetLength,
-    PartPastEnd,
-    UnknownMean,
-    AboveLimit,
+    SheetLength = 51,
+    PartPastEnd = 52,
+    UnknownMean = 53,
+    AboveLimit = 54,
 }
 
 impl SheetError {
-    // Numbers 51 to 54.
+    // The number that hosts are told.
     pub fn number(self) -> u64
         ensures { result ≡ sheet_number self }
     {
-        match self {
-            SheetError::SheetLength => 51,
-            SheetError::PartPastEnd => 52,
-            SheetError::UnknownMean => 53,
-            SheetError::AboveLimit => 54,
-        }
+        self as u64
     }
 }
 
