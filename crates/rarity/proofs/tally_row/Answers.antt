@@ -10,7 +10,7 @@ loop-place-init c = record { counted = places_none c.new-t.ensures }
 
 pub loop-place-preserved : goal.loop-place-preserved
 loop-place-preserved c =
-    let d = c.place_at.ensures ∙ ap (λ (z : Row). place_at z c.loop-place.place) c.row_in-row.ensures.value in
+    let d = c.place_at.ensures ∙ ap (λ (z : Row). place_at z c.loop-place.place) c.row-row.ensures.value in
     let h = c.loop-place.invariant.counted in
     record {
       counted =
@@ -23,9 +23,9 @@ loop-place-preserved c =
 -- the last place
 pub returns-after-place_at-clause-value : goal.returns-after-place_at-clause-value
 returns-after-place_at-clause-value c =
-    let d = c.place_at.ensures ∙ ap (λ (z : Row). place_at z c.loop-place.place) c.row_in-row.ensures.value in
+    let d = c.place_at.ensures ∙ ap (λ (z : Row). place_at z c.loop-place.place) c.row-row.ensures.value in
     let h = c.loop-place.invariant.counted in
-    let n = marks_in_row c.requires.fit c.args.r c.requires.row in
+    let n = marks_in_row c.args.store.fit c.args.r c.requires.row in
     elim c.match-place_at.branch [
       | in-Concrete w ↦
           (places_end (place_turn d h _ w.in-Concrete.is w.tally_word-t.ensures.taken w.tally_word-t.ensures.small w.t-is) (omega (arith, n)) (omega (arith, n))).0

@@ -1,4 +1,5 @@
-use Rattle.store.specs.Store.{rows_of, nth_row}
+use Rattle.store.specs.Store.{nth_row}
+use Rattle.store.specs.Lent.{rows_seen}
 use Rattle.counting.specs.Counters.{taking}
 use Rattle.rarity.proofs.Turns.{Upto}
 use Rattle.rarity.proofs.tally_row.Given as goal
@@ -6,5 +7,5 @@ use Rattle.rarity.proofs.tally_row.Given as goal
 abbrev pub invariant-loop-place : goal.invariant-loop-place
 invariant-loop-place l =
     record {
-      counted : Upto (taking l.flags (rows_of l.store l.words l.marks)) (nth_row (rows_of l.store l.words l.marks) l.r) l.place l.t;
+      counted : Upto (taking l.flags (rows_seen l.store)) (nth_row (rows_seen l.store) l.r) l.place l.t;
     }

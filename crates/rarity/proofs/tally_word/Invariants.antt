@@ -1,5 +1,5 @@
 use Rattle.std.proofs.Common.{◌+◌, ◌*◌}
-use Rattle.store.specs.Store.{rows_of}
+use Rattle.store.specs.Lent.{rows_seen}
 use Rattle.means.specs.Tallies.{Within}
 use Rattle.counting.specs.Cells.{byte_addresses}
 use Rattle.counting.specs.Counters.{taking}
@@ -9,6 +9,6 @@ use Rattle.rarity.proofs.tally_word.Given as goal
 abbrev pub invariant-loop-b : goal.invariant-loop-b
 invariant-loop-b l =
     record {
-      taken : Taken (taking l.flags (rows_of l.store l.words l.marks)) l.initial.t (byte_addresses l.place l.x l.b) l.t;
+      taken : Taken (taking l.flags (rows_seen l.store)) l.initial.t (byte_addresses l.place l.x l.b) l.t;
       small : Within (8 * l.place + l.b) l.t;
     }
