@@ -1,6 +1,6 @@
 -- Two rows that change places, in the rows and in the two lists of where each row is; and the loop of them.
 use Rattle.std.proofs.Common.{Bool, true, false, List, [], ◌≡◌, refl, sym, ap, ◌∙◌, subst, ℕ, ◌+◌, ◌≤◌, ◌<◌, lt_of_lt_of_le, not-suc-le-zero, arith, below_more, eqb-true, ltb-true, ltb-false, eqb, ltb, length, get_or, take, set, length-set, get_or-set_same, get_or-set_other, get_or-take, ext_get_or, length-take-le}
-use borrow.Author.Tests.{eqb-false}
+use Rattle.std.proofs.lemmas.Bool.{eqb-false}
 use Rattle.std.proofs.Math.ListN.{length-map}
 use Rattle.laws.proofs.Lists.{map_get}
 use Rattle.rows.specs.Rows.{Row, row}

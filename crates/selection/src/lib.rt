@@ -3,33 +3,30 @@
 #![tactic(auto)]
 
 ghost use Rattle.std.specs.Prelude.{◌≡◌, length};
-ghost use Rattle.store.specs.Store.{Fit, rows_of};
+ghost use Rattle.store.specs.Lent.{rows_lent, SameStore};
 ghost use Rattle.rounds.specs.Rounds.{stored};
 ghost use Rattle.selection.specs.Selecting.{kept_numbers, kept_rows};
 
 pub mod order;
 pub mod places;
 
-use store::layout::Layout;
+use store::view::StoreMut;
 
 // Keeps the rows whose flag is set with the lowest scores, at most `selection` of them, in rising order, equals in row order.
 // Answers how many.
 pub fn select_rarest(
-    words: &mut [u64],
-    marks: &mut [u8],
-    store: Layout,
+    store: &mut StoreMut,
     scores: &[f64],
     flags: &[bool],
     selection: usize,
 ) -> usize
-    requires fit { Fit store words.old marks.old }
-    requires a_score_each { length scores.now ≡ store.rows }
-    requires a_flag_each { length flags.now ≡ store.rows }
+    requires a_score_each { length scores.now ≡ store.old.layout.rows }
+    requires a_flag_each { length flags.now ≡ store.old.layout.rows }
     ensures value { result ≡ length (kept_numbers selection scores.now flags.now) }
-    ensures rows { rows_of store words.new marks.new
-        ≡ stored store (kept_rows selection scores.now flags.now (rows_of store words.old marks.old)) }
+    ensures rows { rows_lent store.new ≡ stored store.old.layout (kept_rows selection scores.now flags.now (rows_lent store.old)) }
+    ensures same_store { SameStore store.old store.new }
 {
     let order = order::order_of(scores, flags, selection);
-    places::move_kept(words, marks, store, order.as_slice());
+    places::move_kept(store, order.as_slice());
     order.len()
 }

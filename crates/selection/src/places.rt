@@ -1,14 +1,12 @@
 // The order carried out on the rows, by at most one exchange of two rows for each that is kept.
 ghost use Rattle.std.specs.Prelude.{◌≡◌, ◌<◌, ◌≤◌, length, take, set, get_or};
 ghost use Rattle.rows.specs.Limits.{most_rows};
-ghost use Rattle.store.specs.Store.{Fit, rows_of};
+ghost use Rattle.store.specs.Lent.{rows_lent, SameStore};
 ghost use Rattle.rounds.specs.Rounds.{stored};
 ghost use Rattle.selection.specs.Places.{Numbers, Own, Inverse, rows_numbered};
 
 use rows::limits::MOST_ROWS;
-use store::layout::Layout;
-use store::swap::swap_rows;
-use store::zero::zero_rows;
+use store::view::StoreMut;
 
 // Where each of some rows is, and which row is at each place.
 #[derive(Drop)]
@@ -59,26 +57,24 @@ impl Places {
 }
 
 // The rows of `order` come first.
-fn place_kept(words: &mut [u64], marks: &mut [u8], store: Layout, order: &[usize])
-    requires fit { Fit store words.old marks.old }
-    requires numbers { Numbers store.rows order.now }
-    ensures { take (length order.now) (rows_of store words.new marks.new)
-        ≡ rows_numbered order.now (rows_of store words.old marks.old) }
+fn place_kept(store: &mut StoreMut, order: &[usize])
+    requires numbers { Numbers store.old.layout.rows order.now }
+    ensures first { take (length order.now) (rows_lent store.new) ≡ rows_numbered order.now (rows_lent store.old) }
+    ensures same_store { SameStore store.old store.new }
 {
-    let mut places = Places::new(store.rows);
+    let mut places = Places::new(store.layout.rows);
     for (place, incoming) in order.iter().enumerate() {
         let from = places.exchange(place, *incoming);
-        swap_rows(words, marks, store, place, from);
+        store.swap_rows(place, from);
     }
 }
 
 // The rows of `order` come first, and the others become zero.
-pub(crate) fn move_kept(words: &mut [u64], marks: &mut [u8], store: Layout, order: &[usize])
-    requires fit { Fit store words.old marks.old }
-    requires numbers { Numbers store.rows order.now }
-    ensures { rows_of store words.new marks.new
-        ≡ stored store (rows_numbered order.now (rows_of store words.old marks.old)) }
+pub(crate) fn move_kept(store: &mut StoreMut, order: &[usize])
+    requires numbers { Numbers store.old.layout.rows order.now }
+    ensures rows { rows_lent store.new ≡ stored store.old.layout (rows_numbered order.now (rows_lent store.old)) }
+    ensures same_store { SameStore store.old store.new }
 {
-    place_kept(words, marks, store, order);
-    zero_rows(words, marks, store, order.len());
+    place_kept(store, order);
+    store.zero_rows(order.len());
 }

@@ -2,5 +2,5 @@ use Rattle.std.proofs.Common.{◌∙◌}
 use Rattle.selection.proofs.KeptNumbers.{numbers}
 use Rattle.selection.proofs.select_rarest.Goals as goal
 
-pub move_kept-requires-clause-numbers : goal.move_kept-requires-clause-numbers
-move_kept-requires-clause-numbers c = numbers _ _ _ (c.as_slice.ensures.value ∙ c.order_of-order.ensures) c.requires.a_score_each
+pub move_kept-requires : goal.move_kept-requires
+move_kept-requires c = record { numbers = numbers _ _ _ (c.as_slice.ensures.value ∙ c.order_of-order.ensures) c.requires.a_score_each }
