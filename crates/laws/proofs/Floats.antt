@@ -1,12 +1,9 @@
 -- Floats that are finite and have no minus sign.
-use mathlib.Core.Bool.{Bool, true, false}
-use Prim.Native.Nat.{ℕ, ◌<◌}
-use native.Mathlib.Nat.{mul-pos}
-use lib.Dec.{T, ltb→lt, lt→ltb}
-use lib.IntN.{ℤ}
-use lib.Ieee.{Float, nan, inf, fin, up}
-use lib.Ieee.Fits.{up_pos}
-use lib.Ieee.Positive.{num, positive, first_pos}
+use Rattle.std.proofs.Common.{Bool, true, false, ℕ, ◌<◌, mul-pos, T, ltb→lt, lt→ltb, ℤ, Float}
+use Rattle.std.specs.Float.{nan, inf, fin}
+use Rattle.std.specs.Float.Ieee.{up}
+use Rattle.std.specs.Float.Ieee.Fits.{up_pos}
+use Rattle.std.specs.Float.Ieee.Positive.{num, positive, first_pos}
 
 abbrev pub plain : Float → Bool
 plain nan = false

@@ -1,12 +1,7 @@
 -- The front of a local array, lent as `l[0..n]`: the borrow checker says `take (n - 0) (drop 0 l)`.
-use mathlib.Core.Path.{◌≡◌, refl, ap, ◌∙◌}
-use mathlib.Core.List.{List, ◌∷◌}
-use Prim.Native.Nat.{ℕ, zero, suc, ◌-◌, ◌≤◌}
-use native.Mathlib.Nat.{sub-zero, le_of_suc-le-suc, not-suc-le-zero}
-use native.Mathlib.Omega.{arith}
+use Rattle.std.proofs.Common.{◌≡◌, refl, ap, ◌∙◌, List, ◌∷◌, ℕ, zero, suc, ◌-◌, ◌≤◌, le_of_suc-le-suc, not-suc-le-zero, arith, length, take, drop, replicate, take_at, length-take-le}
+use Rattle.std.proofs.Math.Nat.{sub-zero}
 use borrow.Rule.Slice.PartMut.{put_mid, same_len_mid}
-use lib.ListN.{length, take, drop, replicate}
-use lib.Seq.{take_at, length-take-le}
 
 -- that of an array of one value
 first_alike : {A : Type 0} (n k : ℕ) (a : A) → n ≤ k → take n (replicate k a) ≡ replicate n a

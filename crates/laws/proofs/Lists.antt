@@ -1,9 +1,5 @@
 -- Lists.
-use mathlib.Core.List.{List, [], ◌∷◌, map}
-use mathlib.Core.Path.{◌≡◌, refl}
-use Prim.Native.Nat.{ℕ, zero, suc, ◌<◌}
-use native.Mathlib.Nat.{not-suc-le-zero, le_of_suc-le-suc}
-use lib.ListN.{length, get_or}
+use Rattle.std.proofs.Common.{List, [], ◌∷◌, map, ◌≡◌, refl, ℕ, zero, suc, ◌<◌, not-suc-le-zero, le_of_suc-le-suc, length, get_or}
 
 -- an element of a mapped list, whatever either list has past its end
 pub map_get : {A : Type 0} {B : Type 0} (f : A → B) (l : List A) (j : ℕ) (d : A) (e : B) → j < length l → get_or (map f l) j e ≡ f (get_or l j d)

@@ -1,7 +1,6 @@
 -- Numbers.
-use mathlib.Core.Path.{◌≡◌, sym, ◌∙◌}
-use Prim.Native.Nat.{ℕ, ◌*◌, ◌<◌}
-use native.Mathlib.Nat.{zero-mul, eq_of_mul-eq-mul_right}
+use Rattle.std.proofs.Common.{◌≡◌, sym, ◌∙◌, ℕ, ◌*◌, ◌<◌, zero-mul}
+use Rattle.std.proofs.Math.Nat.{eq_of_mul-eq-mul_right}
 
 -- a product of 0 with a factor above 0
 pub no_factor : (x c : ℕ) → 0 < c → x * c ≡ 0 → x ≡ 0
