@@ -1,6 +1,6 @@
 -- The effect of an instruction names only registers 1 to 31 and memory words that there are.
 use Rattle.std.proofs.Common.{◌≡◌, ℕ, ◌/◌, ◌%◌, ◌<◌, true, false, eqb, ltb, arith, ltb-true}
-use borrow.Author.Tests.{eqb-false}
+use Rattle.std.proofs.lemmas.Bool.{eqb-false}
 use Rattle.laws.proofs.Choices.{chosen, parts}
 use Rattle.riscu.specs.Formats.{imm_b}
 use Rattle.riscu.specs.Registers.{Registers}
