@@ -1,9 +1,5 @@
 -- What carrying out an effect leaves alone: the lengths of a row, and its first words but pc.
-use mathlib.Core.Path.{◌≡◌, refl, ◌∙◌}
-use Prim.Native.Nat.{ℕ, ◌+◌, ◌<◌}
-use native.Mathlib.Omega.{arith}
-use lib.ListN.{length, get_or, length-set}
-use lib.Seq.{get_or-set_other}
+use Rattle.std.proofs.Common.{◌≡◌, refl, ◌∙◌, ℕ, ◌+◌, ◌<◌, arith, length, get_or, length-set, get_or-set_other}
 use Rattle.values.specs.Values.{register_count}
 use Rattle.values.specs.declared.Value.{Value}
 use Rattle.effects.specs.declared.effect.Effect.{Effect}
