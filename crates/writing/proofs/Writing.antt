@@ -1,6 +1,5 @@
 -- Laws of texts written at a place.
-use Rattle.std.proofs.Common.{◌≡◌, sym, ap, ◌∙◌, List, [], ◌++◌, append_assoc, ℕ, ◌+◌, ◌-◌, ◌≤◌, zero-add, add_assoc, arith, length, take, drop}
-use Rattle.std.proofs.Common.{length-append, length-drop, length-take-le, take_at, drop_at, drop-drop, refl, append-nil, add-zero, take-append-drop}
+use Rattle.std.proofs.Common.{◌≡◌, sym, ap, ◌∙◌, List, [], ◌++◌, append_assoc, ℕ, ◌+◌, ◌-◌, ◌≤◌, zero-add, add_assoc, arith, length, take, drop, length-append, length-drop, length-take-le, take_at, drop_at, drop-drop, refl, append-nil, add-zero, take-append-drop}
 use borrow.Rule.Slice.PartMut.{put_mid, Post-is}
 use Rattle.writing.specs.Written.{written}
 use Rattle.writing.specs.Writing.{written_at, Wrote}
