@@ -14,7 +14,6 @@ mod put;
 
 fn put_answer(out: &mut Output, answer: Answer)
     requires { out.old.written + 104 ≤ length out.old.bytes.now }
-    ensures same { out.new.bytes.ghost_name ≡ out.old.bytes.ghost_name }
     ensures upper_bound { out.new.written ≤ out.old.written + 104 }
     ensures put { Put out.old (answer_line answer) out.new }
 {
@@ -27,7 +26,6 @@ fn put_answer(out: &mut Output, answer: Answer)
 
 fn put_inputs(out: &mut Output, inputs: &[u64])
     requires { out.old.written + 27 * length inputs.now ≤ length out.old.bytes.now }
-    ensures same { out.new.bytes.ghost_name ≡ out.old.bytes.ghost_name }
     ensures upper_bound { out.new.written ≤ out.old.written + 27 * length inputs.now }
     ensures put { Put out.old (input_lines inputs.now) out.new }
 {

@@ -7,7 +7,6 @@ use writing::Output;
 
 fn put_decimal(out: &mut Output, n: u64)
     requires { out.old.written + 20 ≤ length out.old.bytes.now }
-    ensures same { out.new.bytes.ghost_name ≡ out.old.bytes.ghost_name }
     ensures upper_bound { out.new.written ≤ out.old.written + 20 }
     ensures put { Put out.old (decimal n) out.new }
 {
@@ -18,7 +17,6 @@ fn put_decimal(out: &mut Output, n: u64)
 
 pub(crate) fn put_labelled(out: &mut Output, label: &[u8], n: u64)
     requires { out.old.written + length label.now + 20 ≤ length out.old.bytes.now }
-    ensures same { out.new.bytes.ghost_name ≡ out.old.bytes.ghost_name }
     ensures upper_bound { out.new.written ≤ out.old.written + length label.now + 20 }
     ensures put { Put out.old (labelled label.now n) out.new }
 {
@@ -28,7 +26,6 @@ pub(crate) fn put_labelled(out: &mut Output, label: &[u8], n: u64)
 
 pub(crate) fn put_line(out: &mut Output, label: &[u8], n: u64)
     requires { out.old.written + length label.now + 21 ≤ length out.old.bytes.now }
-    ensures same { out.new.bytes.ghost_name ≡ out.old.bytes.ghost_name }
     ensures upper_bound { out.new.written ≤ out.old.written + length label.now + 21 }
     ensures put { Put out.old (number_line label.now n) out.new }
 {

@@ -8,11 +8,11 @@ use Rattle.writing.proofs.Writing.{wrote_more, wrote_none, wrote_front}
 
 -- a text after a text is one text
 pub put_more : {o p q : Output} {t u : List ℕ} → Put o t p → Put p u q → Put o (t ++ u) q
-put_more a b = record { wrote = wrote_more a.wrote b.wrote; len = b.len ∙ a.len }
+put_more a b = record { same_bytes = b.same_bytes ∙ a.same_bytes; wrote = wrote_more a.wrote b.wrote; len = b.len ∙ a.len }
 
 -- nothing was put
 pub put_none : (o : Output) → o.written ≤ length o.bytes.now → Put o [] o
-put_none o h = record { wrote = wrote_none o.bytes.now o.written h; len = refl }
+put_none o h = record { same_bytes = refl; wrote = wrote_none o.bytes.now o.written h; len = refl }
 
 -- a text by another name
 pub put_as : {o p : Output} {t u : List ℕ} → t ≡ u → Put o t p → Put o u p

@@ -25,8 +25,7 @@ impl<'a> Output<'a> {
     #[tactic(auto, using(crate::proofs::Writing::wrote_part))]
     pub fn put(&mut self, text: &[u8])
         requires { self.old.written + length text.now ≤ length self.old.bytes.now }
-        ensures same { self.new.bytes.ghost_name ≡ self.old.bytes.ghost_name }
-        ensures put { Put self.old text.now self.new }
+        ensures { Put self.old text.now self.new }
     {
         let end = self.written + text.len();
         self.bytes[self.written..end].copy_from_slice(text);

@@ -6,4 +6,4 @@ pub returns-clause-put : goal.returns-clause-put
 unfolding answer_line
 returns-clause-put c =
     put_more c.put_labelled.ensures.put
-    (put_more c.put_labelled-2.ensures.put (put_more c.put_labelled-3.ensures.put (put_more c.put_labelled-4.ensures.put c.put.ensures.put)))
+    (put_more c.put_labelled-2.ensures.put (put_more c.put_labelled-3.ensures.put (put_more c.put_labelled-4.ensures.put c.put.ensures)))
