@@ -4,7 +4,7 @@
 
 ghost use Rattle.std.specs.Prelude.{◌≡◌, length};
 ghost use Rattle.checks.specs.Tests.{checked_by};
-ghost use Rattle.store.specs.Store.{Fit, rows_of};
+ghost use Rattle.store.specs.Lent.{rows_seen};
 ghost use Rattle.rarity.specs.Scores.{scores_of, are_ordered};
 ghost use Rattle.scoring.specs.Entry.{all_valid, size_tests, scoring_checked, ordered_answer, scoring_answer, scores_left, store_scores, scoring_number};
 ghost use Rattle.scoring.specs.declared.ScoringError.TheVariants.{Refused};
@@ -18,7 +18,7 @@ use means::MeanType;
 use rarity::{are_ordered, score_rows};
 use rows::limits::MOST_ROWS;
 use store::layout::Layout;
-use store::row::row_in;
+use store::view::StoreRef;
 
 // Why rows are not scored.
 #[derive(Clone, Copy)]
@@ -48,13 +48,11 @@ pub fn scoring_number(answer: Result<(), ScoringError>) -> u64
 }
 
 // Whether all rows are such as executors can have.
-fn all_valid(words: &[u64], marks: &[u8], store: Layout) -> bool
-    requires { Fit store words.now marks.now }
-    ensures { result ≡ all_valid (rows_of store words.now marks.now) }
+fn all_valid(store: StoreRef) -> bool
+    ensures { result ≡ all_valid (rows_seen store.entry) }
 {
-    for r in 0..store.rows {
-        let row = row_in(words, marks, store, r);
-        if !valid_row(row.words, row.marks) {
+    for r in 0..store.layout.rows {
+        if !valid_row(store.row(r)) {
             return false;
         }
     }
@@ -87,22 +85,15 @@ fn check_sizes(
 
 // Scores all rows; the lent scores are written only if they can be ordered.
 #[tactic(auto, unfolding(crate::specs::Entry::scores_left))]
-fn score_store(
-    words: &[u64],
-    marks: &[u8],
-    store: Layout,
-    mean: MeanType,
-    scores: &mut [f64],
-) -> Result<(), ScoringError>
-    requires fit { Fit store words.now marks.now }
-    requires a_score_each { length scores.old ≡ store.rows }
-    ensures value { result ≡ ordered_answer (are_ordered (scores_of mean (rows_of store words.now marks.now))) }
-    ensures scores_after { scores.new ≡ scores_left result (scores_of mean (rows_of store words.now marks.now)) scores.old }
+fn score_store(store: StoreRef, mean: MeanType, scores: &mut [f64]) -> Result<(), ScoringError>
+    requires { length scores.old ≡ store.layout.rows }
+    ensures value { result ≡ ordered_answer (are_ordered (scores_of mean (rows_seen store.entry))) }
+    ensures scores_after { scores.new ≡ scores_left result (scores_of mean (rows_seen store.entry)) scores.old }
 {
-    let n = store.rows;
+    let n = store.layout.rows;
     let flags = [true; MOST_ROWS];
     let mut computed = [0.0; MOST_ROWS];
-    score_rows(words, marks, store, &flags[0..n], mean, &mut computed[0..n]);
+    score_rows(store, &flags[0..n], mean, &mut computed[0..n]);
     if !are_ordered(&computed[0..n]) {
         return Err(ScoringError::ScoresUnordered);
     }
@@ -129,7 +120,11 @@ pub fn score_with_mean(
     ensures scores_bounded { ScoresBounded memory log rows mean words.now marks.now scores.old scores.new }
 {
     check_sizes(words, marks, memory, log, rows, scores.len())?;
-    let store = Layout::new(rows as usize, memory / 8, log);
-    test(all_valid(words, marks, store), Refusal::InvalidRow)?;
-    score_store(words, marks, store, mean, scores)
+    let store = StoreRef {
+        words,
+        marks,
+        layout: Layout::new(rows as usize, memory / 8, log),
+    };
+    test(all_valid(store), Refusal::InvalidRow)?;
+    score_store(store, mean, scores)
 }

@@ -6,14 +6,14 @@ use Rattle.scoring.proofs.score_store.Goals as goal
 
 pub returns-then-not-are_ordered-clause-value : goal.returns-then-not-are_ordered-clause-value
 returns-then-not-are_ordered-clause-value c =
-    let few = c.requires.fit.sized.few in
+    let few = c.args.store.fit.sized.few in
     unordered c.are_ordered.ensures
     (front_part _ _ _ few c.score_rows.auto.scores ∙ c.score_rows.ensures ∙ all_scored _ _ _ _ few)
     c.if-not-are_ordered.true
 
 pub returns-clause-value : goal.returns-clause-value
 returns-clause-value c =
-    let few = c.requires.fit.sized.few in
+    let few = c.args.store.fit.sized.few in
     ordered c.are_ordered.ensures
     (front_part _ _ _ few c.score_rows.auto.scores ∙ c.score_rows.ensures ∙ all_scored _ _ _ _ few)
     c.if-not-are_ordered.false
@@ -21,5 +21,5 @@ returns-clause-value c =
 pub returns-clause-scores_after : goal.returns-clause-scores_after
 unfolding scores_left
 returns-clause-scores_after c =
-    let few = c.requires.fit.sized.few in
+    let few = c.args.store.fit.sized.few in
     c.copy_from_slice.ensures.after ∙ front_part _ _ _ few c.score_rows.auto.scores ∙ c.score_rows.ensures ∙ all_scored _ _ _ _ few

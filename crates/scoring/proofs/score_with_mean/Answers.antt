@@ -5,23 +5,23 @@ use Rattle.scoring.proofs.Accepted.{sizes_accepted, valid_answer, invalid_answer
 use Rattle.scoring.proofs.Scored.{promised}
 use Rattle.scoring.proofs.score_with_mean.Goals as goal
 
-pub new-store-requires : goal.new-store-requires
-new-store-requires c =
+pub new-requires : goal.new-requires
+new-requires c =
     let a = c.args in
     let z = sizes_accepted a.memory a.log a.rows a.words.now a.marks.now a.scores.now c.check_sizes.ensures c.in_ok-check_sizes.was in
     record { memory = z.memory_most; log = z.log_most }
 
-pub all_valid-requires : goal.all_valid-requires
-all_valid-requires c =
+pub invariant_of-store : goal.invariant_of-store
+invariant_of-store c =
     let a = c.args in
     let z = sizes_accepted a.memory a.log a.rows a.words.now a.marks.now a.scores.now c.check_sizes.ensures c.in_ok-check_sizes.was in
-    rw c.new-store.ensures z.fit
+    record { fit = rw c.new.ensures z.fit }
 
 pub score_store-requires : goal.score_store-requires
 score_store-requires c =
     let a = c.args in
     let z = sizes_accepted a.memory a.log a.rows a.words.now a.marks.now a.scores.now c.check_sizes.ensures c.in_ok-check_sizes.was in
-    rw c.new-store.ensures (record { fit = z.fit; a_score_each = z.one_each })
+    rw c.new.ensures z.one_each
 
 pub returns-in_err-check_sizes : goal.returns-in_err-check_sizes
 unfolding scores_left
@@ -38,13 +38,13 @@ returns-in_err-test c =
     let e = err_from_is_err_and c.from_residual-in_err-test.result c.from_residual-in_err-test.ensures.1 in
     promised a.memory a.log a.rows a.mean a.words.now a.marks.now a.scores.now
     (rw (e.1, e.2)
-    (invalid_answer _ _ _ _ _ _ c.check_sizes.ensures c.in_ok-check_sizes.was c.new-store.ensures c.all_valid.ensures c.test.ensures _ c.in_err-test.was))
+    (invalid_answer _ _ _ _ _ _ c.check_sizes.ensures c.in_ok-check_sizes.was c.new.ensures c.all_valid.ensures c.test.ensures _ c.in_err-test.was))
     (rw e.1)
 
 pub returns : goal.returns
 returns c =
     let a = c.args in
-    let n = c.new-store.ensures in
+    let n = c.new.ensures in
     let x = rw n at c.score_store.ensures in
     promised a.memory a.log a.rows a.mean a.words.now a.marks.now a.scores.now
     (x.value ∙ valid_answer _ _ _ _ _ _ c.check_sizes.ensures c.in_ok-check_sizes.was n c.all_valid.ensures c.test.ensures _ c.in_ok-test.was)
