@@ -1,6 +1,6 @@
 // A run of an executor up to a limit of instructions.
 ghost use Rattle.std.specs.Prelude.{◌≡◌, ◌+◌, ◌-◌, ◌<◌, ◌^◌};
-ghost use Rattle.rows.specs.Rows.{row, Shape, depth_of, limit_of, memory_in};
+ghost use Rattle.rows.specs.Rows.{row, Shape, depth_of, limit_of, memory_words};
 ghost use Rattle.rows.specs.Lent.{lent, SameSlices};
 ghost use Rattle.machine.specs.Runs.{run_of, finished_as};
 ghost use Rattle.machine.specs.Pauses.{halted_as, paused_of};
@@ -109,20 +109,19 @@ pub fn run(words: &mut [u64], marks: &mut [u8], step: u32, tape: &[u64], used: u
 // Runs at most `step` instructions more, up to a write call, which the caller completes by `write_to`, or not at all. What the run decodes
 // it keeps in a table of the caller's, for the next call.
 pub fn run_to_write(
-    words: &mut [u64],
-    marks: &mut [u8],
+    row: &mut RowMut,
     step: u32,
     tape: &[u64],
     used: usize,
     known: &mut Known,
 ) -> Paused
-    requires shape { Shape words.old marks.old }
-    requires step_bound { limit_of (row words.old marks.old) + step < 2 ^ 64 }
-    ensures result_after { halted_as words.new marks.new result
-        ≡ paused_of step tape.now used (row words.old marks.old) }
-    ensures handed_out { HandedOut (memory_in marks.old) result.step }
+    requires step_bound { limit_of (lent row.old) + step < 2 ^ 64 }
+    ensures result_after { halted_as row.new.words.now row.new.marks.now result
+        ≡ paused_of step tape.now used (lent row.old) }
+    ensures handed_out { HandedOut (memory_words (lent row.old)) result.step }
+    ensures same_slices { SameSlices row.old row.new }
 {
-    let limit = words[LIMIT] + step as u64;
-    words[LIMIT] = limit;
-    run_to(words, marks, limit, tape, used, known, true)
+    let limit = row.words[LIMIT] + step as u64;
+    row.words[LIMIT] = limit;
+    run_to(row.words, row.marks, limit, tape, used, known, true)
 }

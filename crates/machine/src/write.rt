@@ -1,6 +1,6 @@
 // The bytes of a write call, for whoever runs up to one.
 ghost use Rattle.std.specs.Prelude.{◌≡◌, ◌+◌, ◌*◌, ◌/◌, ◌<◌, ◌≤◌, length};
-ghost use Rattle.rows.specs.Rows.{row, Shape, memory_in, memory_words};
+ghost use Rattle.rows.specs.Rows.{memory_words};
 ghost use Rattle.rows.specs.Lent.{seen, lent, SameSlices};
 ghost use Rattle.calls.specs.Calls.{completed};
 ghost use Rattle.machine.specs.Writes.{byte_at, bytes_from};
@@ -27,9 +27,10 @@ fn byte_at(row: RowRef, address: u64) -> u8
     }
 }
 
+// Copies the bytes of a write call that was handed out, from its buffer on, to an output of the call's size, and completes the call.
 #[tactic(auto, unfolding(crate::specs::Writes::bytes_from))]
-fn write_row_to(row: &mut RowMut, buffer: u64, output: &mut [u8])
-    requires { buffer + length output.old ≤ 8 * memory_words (lent row.old) }
+pub fn write_to(row: &mut RowMut, buffer: u64, output: &mut [u8])
+    requires output_bound { buffer + length output.old ≤ 8 * memory_words (lent row.old) }
     ensures output_after { output.new ≡ bytes_from (length output.old) buffer (lent row.old) }
     ensures row_after { lent row.new ≡ completed (length output.old) (lent row.old) }
     ensures same_slices { SameSlices row.old row.new }
@@ -39,16 +40,4 @@ fn write_row_to(row: &mut RowMut, buffer: u64, output: &mut [u8])
         output[k] = byte_at(view, buffer + k as u64);
     }
     complete_write(row, output.len() as u64);
-}
-
-// Copies the bytes of a write call that was handed out, from its buffer on, to an output of the call's size, and completes the call.
-pub fn write_to(words: &mut [u64], marks: &mut [u8], buffer: u64, output: &mut [u8])
-    requires shape { Shape words.old marks.old }
-    requires output_bound { buffer + length output.old ≤ 8 * memory_in marks.old }
-    ensures output_after { output.new ≡ bytes_from (length output.old) buffer (row words.old marks.old) }
-    ensures row_after { row words.new marks.new
-        ≡ completed (length output.old) (row words.old marks.old) }
-{
-    let mut row = RowMut { words, marks };
-    write_row_to(&mut row, buffer, output);
 }
