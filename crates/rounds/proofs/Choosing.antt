@@ -1,11 +1,5 @@
 -- What `rarest` keeps, of elements of any type and any test `lower`.
-use mathlib.Core.Bool.{Bool, true, false, cond, true≢false}
-use mathlib.Core.List.{List, [], ◌∷◌, ◌++◌, map}
-use mathlib.Core.Logic.{◌⊎◌, inl, inr, ⊎_elim}
-use mathlib.Core.Path.{◌≡◌, refl, sym, ap, ◌∙◌, subst}
-use Prim.Native.Nat.{ℕ, zero, suc, min, ◌+◌, ◌<◌}
-use native.Mathlib.Omega.{arith}
-use lib.ListN.{length, get_or}
+use Rattle.std.proofs.Common.{Bool, true, false, cond, true≢false, List, [], ◌∷◌, ◌++◌, map, ◌⊎◌, inl, inr, ⊎_elim, ◌≡◌, refl, sym, ap, ◌∙◌, subst, ℕ, zero, suc, min, ◌+◌, ◌<◌, arith, length, get_or}
 use Rattle.rounds.specs.Demand.{Inserted, Permutation, none, one, All, nil, cons}
 use Rattle.rounds.specs.Selection.{Spot, Chosen, remove_at, lowest_from, rarest}
 use Rattle.rounds.proofs.Lists.{permutation_refl, inserted_length, inserted_at, all_inserted, all_permuted, all_right, remove_map}

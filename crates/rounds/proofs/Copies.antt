@@ -1,18 +1,10 @@
 -- Of the missing executors at most all are copies: missing × ratio is at most missing, also as an f64.
-use mathlib.Core.Bool.{Bool, true, false, ◌&&◌, ◌||◌, true≢false}
-use mathlib.Core.Logic.{◌⊎◌, inl, inr, ⊎_elim}
-use mathlib.Core.Path.{◌≡◌, sym, ap, ◌∙◌, subst}
-use Prim.Native.Nat.{ℕ, ◌*◌, ◌^◌, ◌≤◌, ◌<◌}
-use native.Mathlib.Nat.{le_of_eq, le_of_lt, le_of_suc-le-suc, lt_of_le_of_lt, div-lt_iff_lt-mul}
-use native.Mathlib.Nat.{suc-mul, mul_assoc, mul_comm, mul_left_comm, mul_right_comm, mul-one, one-mul, zero-mul, mul-zero, mul-pos}
-use native.Mathlib.Nat.{mul-le-mul, mul-le-mul_right, le_of_mul-le-mul_right}
-use native.Mathlib.Omega.{arith}
-use lib.Dec.{T, eqb, ltb, lit<, eqb→eq, ltb→lt}
-use lib.Ieee.{Float, nan, inf, fin, binary64, up, down, round, mul, of_int, le, lt, eq}
-use lib.Ieee.Exact.{HasValue, round_exact}
-use lib.Ieee.Fits.{up_pos, down_pos, and_l, and_r}
-use lib.Ieee.Order.{round_mono}
-use lib.IntN.{pos}
+use Rattle.std.proofs.Common.{Bool, true, false, ◌&&◌, ◌||◌, true≢false, ◌⊎◌, inl, inr, ⊎_elim, ◌≡◌, sym, ap, ◌∙◌, subst, ℕ, ◌*◌, ◌^◌, ◌≤◌, ◌<◌, le_of_eq, le_of_lt, le_of_suc-le-suc, lt_of_le_of_lt, div-lt_iff_lt-mul, suc-mul, mul_assoc, mul_comm, mul_left_comm, mul_right_comm, mul-one, one-mul, zero-mul, mul-zero, mul-pos, mul-le-mul, mul-le-mul_right, le_of_mul-le-mul_right, arith, T, eqb, ltb, lit<, eqb→eq, ltb→lt, Float, pos}
+use Rattle.std.specs.Float.{nan, inf, fin, binary64}
+use Rattle.std.specs.Float.Ieee.{up, down, round, mul, of_int, le, lt, eq}
+use Rattle.std.specs.Float.Ieee.Exact.{HasValue, round_exact}
+use Rattle.std.specs.Float.Ieee.Fits.{up_pos, down_pos, and_l, and_r}
+use Rattle.std.specs.Float.Ieee.Order.{round_mono}
 use Rattle.laws.proofs.Numbers.{no_factor}
 use Rattle.rows.specs.Limits.{most_rows}
 use Rattle.checks.specs.Refusals.{is_copy_ratio}

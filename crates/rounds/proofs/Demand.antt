@@ -1,11 +1,5 @@
 -- Demand 3: every round of a call that goes on is fair, whatever the call is given.
-use mathlib.Core.Bool.{false}
-use mathlib.Core.List.{map}
-use mathlib.Core.Path.{◌≡◌, ◌∙◌}
-use Prim.Native.Nat.{min, ◌+◌, ◌≤◌}
-use native.Mathlib.Omega.{arith}
-use lib.Dec.{T}
-use lib.ListN.{length}
+use Rattle.std.proofs.Common.{false, map, ◌≡◌, ◌∙◌, min, ◌+◌, ◌≤◌, arith, T, length}
 use Rattle.rows.specs.Limits.{most_rows}
 use Rattle.checks.specs.Refusals.{is_copy_ratio}
 use Rattle.store.specs.Store.{most_marks, Sized}

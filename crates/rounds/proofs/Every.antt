@@ -1,8 +1,5 @@
 -- One induction over the rounds of a call: what every round from a good start is, and hands on, holds of the whole list.
-use mathlib.Core.Bool.{Bool, true, false, cond}
-use mathlib.Core.List.{[], ◌∷◌}
-use mathlib.Core.Path.{◌≡◌, refl}
-use Prim.Native.Nat.{ℕ, zero, suc}
+use Rattle.std.proofs.Common.{Bool, true, false, cond, [], ◌∷◌, ◌≡◌, refl, ℕ, zero, suc}
 use Rattle.rounds.specs.Calls.{Call}
 use Rattle.rounds.specs.Demand.{All, nil, cons}
 use Rattle.rounds.specs.Rounds.{Start, After, goes_on, ends, tape_short, Round, round_of, rounds_after, rounds}

@@ -1,13 +1,7 @@
 -- Filling makes all rows of the store, each a kept one, a copy of a kept one, or a new executor.
-use mathlib.Core.Bool.{Bool, true, false, cond}
-use mathlib.Core.List.{List, [], ◌∷◌, map}
-use mathlib.Core.Path.{◌≡◌, refl}
-use Prim.Native.Nat.{ℕ, ◌-◌, ◌%◌, ◌≤◌, ◌<◌}
-use native.Mathlib.Nat.{mod-lt}
-use native.Mathlib.Omega.{arith}
-use borrow.Author.Tests.{ltb-false, eqb-false}
-use lib.Dec.{T, eqb}
-use lib.ListN.{length, take, drop, length-append, length-map, length-take, length-drop, length-replicate}
+use Rattle.std.proofs.Common.{Bool, true, false, cond, List, [], ◌∷◌, map, ◌≡◌, refl, ℕ, ◌-◌, ◌%◌, ◌≤◌, ◌<◌, mod-lt, arith, ltb-false, T, eqb, length, take, drop, length-append, length-take, length-drop}
+use Rattle.std.proofs.lemmas.Bool.{eqb-false}
+use Rattle.std.proofs.Math.ListN.{length-map, length-replicate}
 use Rattle.checks.specs.Refusals.{is_copy_ratio}
 use Rattle.loader.proofs.Kept.{new_words, new_marks, new_zero_mark}
 use Rattle.rows.specs.Rows.{Row, row}

@@ -1,13 +1,7 @@
 -- `<` on floats that are finite and above zero is a strict order, and what is not below is at most.
-use mathlib.Core.Bool.{true, false}
-use mathlib.Core.Path.{◌≡◌, refl, sym, ◌∙◌}
-use Prim.Native.Nat.{ℕ, ◌*◌, ◌≤◌, ◌<◌}
-use native.Mathlib.Nat.{le_refl, le_of_lt, le_of_eq, le_trans, lt_of_lt_of_le, lt_of_le_of_lt}
-use native.Mathlib.Nat.{mul_right_comm, mul-le-mul_right, mul-lt-mul_of_pos_right, lt_of_mul-lt-mul_right}
-use lib.Dec.{T, ltb}
-use lib.Ieee.{Float, lt, le}
-use lib.Ieee.Positive.{num, den, positive, cross→le, den_pos}
-use borrow.Author.Tests.{ltb-true, ltb-false, lt-ltb, le-ltb}
+use Rattle.std.proofs.Common.{true, false, ◌≡◌, refl, sym, ◌∙◌, ℕ, ◌*◌, ◌≤◌, ◌<◌, le_refl, le_of_lt, le_of_eq, le_trans, lt_of_lt_of_le, lt_of_le_of_lt, mul_right_comm, mul-le-mul_right, mul-lt-mul_of_pos_right, lt_of_mul-lt-mul_right, T, ltb, Float, ltb-true, ltb-false, lt-ltb, le-ltb}
+use Rattle.std.specs.Float.Ieee.{lt, le}
+use Rattle.std.specs.Float.Ieee.Positive.{num, den, positive, cross→le, den_pos}
 use Rattle.laws.proofs.Floats.{positive_plain, both_plain}
 
 -- by cross multiplication

@@ -1,12 +1,7 @@
 -- The list of a call's rounds for fewer rounds, and what the call leaves after its last one.
-use mathlib.Core.Bool.{Bool, true, false, cond}
-use mathlib.Core.List.{List, [], ◌∷◌, ◌++◌}
-use mathlib.Core.Path.{◌≡◌, refl, sym, ap, ◌∙◌, fun_ext}
-use Prim.Native.Nat.{ℕ, zero, suc, ◌≤◌}
-use native.Mathlib.Nat.{not-suc-le-zero, le_of_suc-le-suc}
-use native.Mathlib.Omega.{arith}
-use lib.ListN.{length, take, length-append}
-use lib.Seq.{take-nil}
+use Rattle.std.proofs.Common.{Bool, true, false, cond, List, [], ◌∷◌, ◌++◌, ◌≡◌, refl, sym, ap, ◌∙◌, ℕ, zero, suc, ◌≤◌, not-suc-le-zero, le_of_suc-le-suc, arith, length, take, length-append}
+use Rattle.std.proofs.Math.Path.{fun_ext}
+use Rattle.std.proofs.Math.Seq.{take-nil}
 use Rattle.answers.specs.declared.finding.Finding.TheVariants.{Nothing}
 use Rattle.rounds.specs.Calls.{Call, of_rounds}
 use Rattle.rounds.specs.Rounds.{Start, beginning, stored, tape_short, filled, chosen_of, selected, After, goes_on, ends, Round, ran_on, round_of}

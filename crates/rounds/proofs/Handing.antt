@@ -1,7 +1,5 @@
 -- What a round hands on: the rows that it keeps are some of those that its runs leave.
-use mathlib.Core.List.{List, map}
-use mathlib.Core.Path.{◌≡◌}
-use Prim.Native.Nat.{ℕ, ◌+◌}
+use Rattle.std.proofs.Common.{List, map, ◌≡◌, ℕ, ◌+◌}
 use Rattle.rows.specs.Rows.{Row}
 use Rattle.machine.specs.Runs.{run_of}
 use Rattle.rounds.specs.Calls.{Call}

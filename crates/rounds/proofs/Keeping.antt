@@ -1,11 +1,9 @@
 -- What a round keeps of the rows still running: each is kept or passed over, and none that is passed over is rarer than one that is kept.
-use mathlib.Core.Bool.{Bool, true, false, cond}
-use mathlib.Core.List.{List, [], ◌∷◌, ◌++◌, map, map-append, Memᴰ}
-use mathlib.Core.Path.{◌≡◌, refl, ap, ◌∙◌}
-use Prim.Native.Nat.{ℕ, min, ◌≤◌}
-use lib.Dec.{T}
-use lib.Ieee.Positive.{positive}
-use lib.ListN.{length, length-map}
+use Rattle.std.proofs.Common.{Bool, true, false, cond, List, [], ◌∷◌, ◌++◌, map, ◌≡◌, refl, ap, ◌∙◌, ℕ, min, ◌≤◌, T, length}
+use Rattle.std.proofs.lemmas.List.{map-append}
+use mathlib.Core.List.{Memᴰ}
+use Rattle.std.specs.Float.Ieee.Positive.{positive}
+use Rattle.std.proofs.Math.ListN.{length-map}
 use Rattle.store.specs.Store.{most_marks}
 use Rattle.rows.specs.Limits.{most_rows}
 use Rattle.rows.specs.Rows.{Row}

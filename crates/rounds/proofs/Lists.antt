@@ -1,9 +1,6 @@
 -- Laws of lists: of an element put in, of permutations, and of what holds of all elements.
-use mathlib.Core.List.{List, [], ◌∷◌, ◌++◌, map, Memᴰ}
-use mathlib.Core.Path.{◌≡◌, refl, sym, ap, ◌∙◌}
-use Prim.Native.Nat.{ℕ, zero, suc, ◌<◌}
-use native.Mathlib.Nat.{not-suc-le-zero, le_of_suc-le-suc}
-use lib.ListN.{length, get_or, replicate}
+use Rattle.std.proofs.Common.{List, [], ◌∷◌, ◌++◌, map, ◌≡◌, refl, sym, ap, ◌∙◌, ℕ, zero, suc, ◌<◌, not-suc-le-zero, le_of_suc-le-suc, length, get_or, replicate}
+use mathlib.Core.List.{Memᴰ}
 use Rattle.rounds.specs.Demand.{Inserted, here, there, Permutation, none, one, All, nil, cons}
 use Rattle.rounds.specs.Selection.{remove_at}
 

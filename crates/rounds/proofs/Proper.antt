@@ -1,7 +1,6 @@
 -- The rows that a search has: each of the lengths of its store, with register 0 marked, so that none is a zero row.
-use mathlib.Core.Path.{◌≡◌, ap, ◌∙◌}
-use native.Mathlib.Omega.{arith}
-use lib.ListN.{length, get_or, get_or-replicate}
+use Rattle.std.proofs.Common.{◌≡◌, ap, ◌∙◌, arith, length, get_or}
+use Rattle.std.proofs.Math.ListN.{get_or-replicate}
 use Rattle.rows.specs.Rows.{Row}
 use Rattle.store.specs.Store.{Sized, zero_row}
 use Rattle.store.specs.declared.layout.Layout.{Layout}

@@ -1,10 +1,6 @@
 -- Running all rows: as many runs as rows, what each makes of its row, and a proper row stays proper; those still running are some of them.
-use mathlib.Core.Bool.{Bool, true, false}
-use mathlib.Core.List.{List, [], ◌∷◌, map}
-use mathlib.Core.Path.{◌≡◌, refl, ap, ◌∙◌}
-use Prim.Native.Nat.{ℕ, suc, ◌≤◌}
-use native.Mathlib.Omega.{arith}
-use lib.ListN.{length, length-map}
+use Rattle.std.proofs.Common.{Bool, true, false, List, [], ◌∷◌, map, ◌≡◌, refl, ap, ◌∙◌, ℕ, suc, ◌≤◌, arith, length}
+use Rattle.std.proofs.Math.ListN.{length-map}
 use Rattle.rows.specs.Rows.{Row}
 use Rattle.machine.specs.Runs.{Finished, run_of}
 use Rattle.invariants.proofs.Lengths.{run_words, run_marks}
