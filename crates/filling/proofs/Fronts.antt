@@ -1,43 +1,42 @@
 -- A store of which the first rows are known and the others are zero; and these first rows grown by one, which is a turn of either loop of filling.
 use Rattle.std.proofs.Common.{◌≡◌, ℕ, suc, ◌+◌, ◌-◌, ◌%◌, ◌<◌, ◌≤◌, List, [], ◌∷◌, ◌++◌, map, length, get_or, take, set, replicate, sym, ap, ◌∙◌, subst, append_assoc, append-nil, add-zero, mod-lt, add-one, arith, length-append, length-take-le, take-suc, take_at, get_or-append-add}
-use mathlib.Core.List.{map-append}
-use lib.ListN.{length-map, length-replicate, get_or-append, get_or-replicate, replicate-append-replicate}
-use lib.Seq.{append_snoc, set-append_seam}
+use Rattle.std.proofs.lemmas.List.{map-append}
+use Rattle.std.proofs.Math.ListN.{length-map, length-replicate, get_or-append, get_or-replicate, replicate-append-replicate}
+use Rattle.std.proofs.Math.Seq.{append_snoc, set-append_seam}
 use Rattle.rows.specs.Rows.{Row, row}
 use Rattle.loader.specs.Loading.{Program, programmed, new_executor}
 use Rattle.store.specs.declared.layout.Layout.{Layout}
-use Rattle.store.specs.Store.{Fit, rows_of, nth_row, zero_row}
+use Rattle.store.specs.declared.view.StoreMut.{StoreMut}
+use Rattle.store.specs.Store.{nth_row, zero_row}
+use Rattle.store.specs.Lent.{rows_lent}
 use Rattle.store.proofs.Rows.{length_rows}
 use Rattle.rounds.specs.Rounds.{stored, parent}
 use Rattle.rounds.specs.Handed.{Holding}
 use Rattle.filling.specs.Filling.{with_copies, with_new}
 
-pub record Front (s : Layout) (front : List Row) (words marks : List ℕ) : Type 0 where
-  pub fit : Fit s words marks
+pub record Front (s : Layout) (front now : List Row) : Type 0 where
   pub few : length front ≤ s.rows
-  pub rows : rows_of s words marks ≡ stored s front
+  pub rows : now ≡ stored s front
 
 -- ---- what `Holding` says, as a front
 
-module _ {s : Layout} {words marks : List ℕ} {kept : ℕ} (h : Holding s words marks kept) where
-  pub kept_length : length (take kept (rows_of s words marks)) ≡ kept
+module _ {s : StoreMut} {kept : ℕ} (h : Holding s kept) where
+  pub kept_length : length (take kept (rows_lent s)) ≡ kept
   kept_length =
-      length-take-le kept (rows_of s words marks)
-      (subst (λ (k : ℕ). kept ≤ k) (sym (length_rows s.rows s.words s.marks words marks)) h.few)
+      length-take-le kept (rows_lent s)
+      (subst (λ (k : ℕ). kept ≤ k) (sym (length_rows s.layout.rows s.layout.words s.layout.marks s.words.now s.marks.now)) h.few)
 
-  pub kept_front : Front s (take kept (rows_of s words marks)) words marks
-  kept_front = record { fit = h.fit; few = omega (arith, kept_length, h.few); rows = h.rest }
+  pub kept_front : Front s.layout (take kept (rows_lent s)) (rows_lent s)
+  kept_front = record { few = omega (arith, kept_length, h.few); rows = h.rest }
 
-pub front_taken : {s : Layout} {front : List Row} {words marks : List ℕ} (n : ℕ) → length front ≡ n → Front s front words marks
-    → take n (rows_of s words marks) ≡ front
+pub front_taken : {s : Layout} {front now : List Row} (n : ℕ) → length front ≡ n → Front s front now → take n now ≡ front
 front_taken {s} {front} n l f = ap (λ (k : List Row). take n k) f.rows ∙ take_at front (replicate (s.rows - length front) (zero_row s)) n l
 
-pub front_holds : {s : Layout} {front : List Row} {words marks : List ℕ} (n : ℕ) → length front ≡ n → Front s front words marks → Holding s words marks n
+pub front_holds : {s : StoreMut} {front : List Row} (n : ℕ) → length front ≡ n → Front s.layout front (rows_lent s) → Holding s n
 front_holds {s} n l f =
     record {
-      fit = f.fit;
-      few = subst (λ (k : ℕ). k ≤ s.rows) l f.few;
-      rest = f.rows ∙ ap (λ (k : List Row). stored s k) (sym (front_taken n l f));
+      few = subst (λ (k : ℕ). k ≤ s.layout.rows) l f.few;
+      rest = f.rows ∙ ap (λ (k : List Row). stored s.layout k) (sym (front_taken n l f));
     }
 
 -- ---- one row more
@@ -64,12 +63,10 @@ module _ (s : Layout) (front : List Row) where
       ∙ ap (λ (i : ℕ). (front ++ (x ∷ [])) ++ replicate i z) there
 
 -- row `at`, the first of the zero rows, is set
-front_more : {s : Layout} {front : List Row} {words marks : List ℕ} (words' marks' : List ℕ) (at : ℕ) (x : Row)
-    → at ≡ length front → at < s.rows → Fit s words' marks' → rows_of s words' marks' ≡ set (rows_of s words marks) at x
-    → Front s front words marks → Front s (front ++ (x ∷ [])) words' marks'
-front_more {s} {front} words' marks' at x l h fit e f =
+front_more : {s : Layout} {front now now' : List Row} (at : ℕ) (x : Row)
+    → at ≡ length front → at < s.rows → now' ≡ set now at x → Front s front now → Front s (front ++ (x ∷ [])) now'
+front_more {s} {front} at x l h e f =
     record {
-      fit = fit;
       few = omega (arith, length-append front (x ∷ []));
       rows = e ∙ ap (λ (k : List Row). set k at x) f.rows ∙ ap (λ (i : ℕ). set (stored s front) i x) l ∙ stored_more s front x (omega arith);
     }
@@ -90,28 +87,26 @@ module _ (s : Layout) (kept : List Row) (draws : List ℕ) where
       ∙ ap (λ (l : List Row). kept ++ l) (sym (map-append (parent kept) (take i draws) (get_or draws i 0 ∷ [])))
       ∙ ap (λ (l : List ℕ). with_copies kept l) (sym (take-suc draws i 0 h) ∙ ap (λ (n : ℕ). take n draws) (sym (add-one i)))
 
-  pub copy_none : {words marks : List ℕ} → Front s kept words marks → Front s (with_copies kept (take 0 draws)) words marks
-  copy_none {words} {marks} f = subst (λ (k : List Row). Front s k words marks) (sym (append-nil kept)) f
+  pub copy_none : {now : List Row} → Front s kept now → Front s (with_copies kept (take 0 draws)) now
+  copy_none {now} f = subst (λ (k : List Row). Front s k now) (sym (append-nil kept)) f
 
   -- turn i copies the row that draw i, which is x, names
-  pub copy_more : {words marks : List ℕ} (words' marks' : List ℕ) (n i x : ℕ) → length kept ≡ n → 0 < n → i < length draws → n + i < s.rows
-      → Fit s words' marks'
-      → x ≡ get_or draws i 0 → rows_of s words' marks' ≡ set (rows_of s words marks) (n + i) (nth_row (rows_of s words marks) (x % n))
-      → Front s (with_copies kept (take i draws)) words marks → Front s (with_copies kept (take (i + 1) draws)) words' marks'
-  copy_more {words} {marks} words' marks' n i x l some h last fit drawn e f =
+  pub copy_more : {now now' : List Row} (n i x : ℕ) → length kept ≡ n → 0 < n → i < length draws → n + i < s.rows
+      → x ≡ get_or draws i 0 → now' ≡ set now (n + i) (nth_row now (x % n))
+      → Front s (with_copies kept (take i draws)) now → Front s (with_copies kept (take (i + 1) draws)) now'
+  copy_more {now} {now'} n i x l some h last drawn e f =
       let front = with_copies kept (take i draws) in
       let t = x % n in
       let small : t < length kept = subst (λ (k : ℕ). t < k) (sym l) (mod-lt x some) in
       let long : length front ≡ n + i = with_copies_length kept (take i draws) ∙ omega (arith, length-take-le i draws (omega arith)) in
-      let copied : nth_row (rows_of s words marks) t ≡ parent kept (get_or draws i 0) =
+      let copied : nth_row now t ≡ parent kept (get_or draws i 0) =
       ap (λ (k : List Row). nth_row k t) f.rows
       ∙ row_within s front t (omega arith)
       ∙ get_or-append kept (map (parent kept) (take i draws)) (row [] []) t small
       ∙ ap (λ (k : ℕ). nth_row kept (k % n)) drawn
       ∙ ap (λ (k : ℕ). nth_row kept (get_or draws i 0 % k)) (sym l) in
-      subst (λ (k : List Row). Front s k words' marks') (with_one_more i h)
-      (front_more words' marks' (n + i) (parent kept (get_or draws i 0)) (sym long) last fit
-      (e ∙ ap (λ (k : Row). set (rows_of s words marks) (n + i) k) copied) f)
+      subst (λ (k : List Row). Front s k now') (with_one_more i h)
+      (front_more (n + i) (parent kept (get_or draws i 0)) (sym long) last (e ∙ ap (λ (k : Row). set now (n + i) k) copied) f)
 
 -- ---- new executors
 
@@ -124,32 +119,30 @@ module _ (s : Layout) (front : List Row) (p : Program) where
       length-append front (replicate n (new_executor p s.words s.marks))
       ∙ ap (λ (k : ℕ). length front + k) (length-replicate n (new_executor p s.words s.marks))
 
-  pub new_none : {words marks : List ℕ} (from : ℕ) → Front s front words marks → Front s (grown (from - from)) words marks
-  new_none {words} {marks} from f =
+  pub new_none : {now : List Row} (from : ℕ) → Front s front now → Front s (grown (from - from)) now
+  new_none {now} from f =
       let none : 0 ≡ from - from = omega arith in
-      subst (λ (k : List Row). Front s k words marks) (sym (append-nil front) ∙ ap grown none) f
+      subst (λ (k : List Row). Front s k now) (sym (append-nil front) ∙ ap grown none) f
 
   -- a program in the first zero row
-  pub new_more : {words marks : List ℕ} (words' marks' : List ℕ) (from r : ℕ) → length front ≡ from → from ≤ r → r < s.rows → Fit s words' marks'
-      → rows_of s words' marks' ≡ set (rows_of s words marks) r (programmed p (nth_row (rows_of s words marks) r))
-      → Front s (grown (r - from)) words marks → Front s (grown (r + 1 - from)) words' marks'
+  pub new_more : {now now' : List Row} (from r : ℕ) → length front ≡ from → from ≤ r → r < s.rows
+      → now' ≡ set now r (programmed p (nth_row now r)) → Front s (grown (r - from)) now → Front s (grown (r + 1 - from)) now'
   unfolding new_executor
-  new_more {words} {marks} words' marks' from r l past h fit e f =
+  new_more {now} {now'} from r l past h e f =
       let x = new_executor p s.words s.marks in
       let long : r ≡ length (grown (r - from)) = omega (arith, with_new_length (r - from)) in
       let more : r - from + 1 ≡ r + 1 - from = omega arith in
-      let zero : nth_row (rows_of s words marks) r ≡ zero_row s =
+      let zero : nth_row now r ≡ zero_row s =
       ap (λ (k : List Row). nth_row k r) f.rows
       ∙ ap (λ (k : ℕ). nth_row (stored s (grown (r - from))) k) long
       ∙ row_next s (grown (r - from)) (omega arith) in
-      subst (λ (k : List Row). Front s k words' marks')
+      subst (λ (k : List Row). Front s k now')
       (append_assoc front (replicate (r - from) x) (x ∷ [])
       ∙ ap (λ (k : List Row). front ++ k) (replicate-append-replicate (r - from) 1 x ∙ ap (λ (n : ℕ). replicate n x) more))
-      (front_more words' marks' r x long h fit (e ∙ ap (λ (k : Row). set (rows_of s words marks) r (programmed p k)) zero) f)
+      (front_more r x long h (e ∙ ap (λ (k : Row). set now r (programmed p k)) zero) f)
 
   -- no zero row is left
-  pub new_all : {words marks : List ℕ} (from r : ℕ) → length front ≡ from → s.rows ≤ r → Front s (grown (r - from)) words marks
-      → rows_of s words marks ≡ grown (s.rows - from)
+  pub new_all : {now : List Row} (from r : ℕ) → length front ≡ from → s.rows ≤ r → Front s (grown (r - from)) now → now ≡ grown (s.rows - from)
   new_all from r l h f =
       let whole : r ≡ s.rows = omega (arith, with_new_length (r - from), f.few) in
       let none : s.rows - length (grown (r - from)) ≡ 0 = omega (arith, with_new_length (r - from)) in

@@ -1,12 +1,13 @@
 -- Twice a small float is exact, so that what the code casts is the product to a half, and one more, halved, is the nearest whole number.
-use Rattle.std.proofs.Common.{◌≡◌, ℕ, zero, suc, ◌+◌, ◌-◌, ◌*◌, ◌/◌, ◌%◌, ◌^◌, ◌<◌, ◌≤◌, min, Bool, true, false, ◌&&◌, T, eqb, ltb, leb, ℤ, pos, negsuc, sym, refl, ap, ◌∙◌, subst, le_trans, lt_of_le_of_lt, le_of_lt, mul-le-mul_right, mul_assoc, mul_comm, add-mul, mul-le-mul, mul-pos, one-mul, zero-mul, mul-one, mul-add, mul_right_comm, not-le_of_lt, le_of_mul-le-mul_right, arith, lit<, ltb→lt, lt→ltb, leb→le, pow_mono, pow-add}
-use native.Mathlib.Nat.{div-div-eq-div-mul, add-div_right, mul-div-mul_right, min-eq_left, div-le_of_le-mul, div-eq_of_lt, zero-div}
-use native.Mathlib.Decide.{dec_lt}
-use lib.Pow.{pow-lt}
-use lib.Ieee.{Float, nan, inf, fin, binary64, up, down, fits, round, add, sum, mul, lt, to_unsigned}
-use lib.Ieee.Exact.{HasValue, round_exact}
-use lib.Ieee.Fits.{down_pos, and_l, and_r, mul-fits}
-use lib.Ieee.Nearest.{div_same}
+use Rattle.std.proofs.Common.{◌≡◌, ℕ, zero, suc, ◌+◌, ◌-◌, ◌*◌, ◌/◌, ◌%◌, ◌^◌, ◌<◌, ◌≤◌, min, Bool, true, false, ◌&&◌, T, eqb, ltb, leb, ℤ, pos, negsuc, sym, refl, ap, ◌∙◌, subst, le_trans, lt_of_le_of_lt, le_of_lt, mul-le-mul_right, mul_assoc, mul_comm, add-mul, mul-le-mul, mul-pos, one-mul, zero-mul, mul-one, mul-add, mul_right_comm, not-le_of_lt, le_of_mul-le-mul_right, arith, lit<, ltb→lt, lt→ltb, leb→le, pow_mono, pow-add, Float}
+use Rattle.std.proofs.Math.Nat.{div-div-eq-div-mul, add-div_right, mul-div-mul_right, min-eq_left, div-le_of_le-mul, div-eq_of_lt, zero-div}
+use Rattle.std.proofs.Math.Decide.{dec_lt}
+use Rattle.std.proofs.Math.Pow.{pow-lt}
+use Rattle.std.specs.Float.{nan, inf, fin, binary64}
+use Rattle.std.specs.Float.Ieee.{up, down, fits, round, add, sum, mul, lt, to_unsigned}
+use Rattle.std.specs.Float.Ieee.Exact.{HasValue, round_exact}
+use Rattle.std.specs.Float.Ieee.Fits.{down_pos, and_l, and_r, mul-fits}
+use Rattle.std.specs.Float.Ieee.Nearest.{div_same}
 use Rattle.laws.proofs.Numbers.{no_factor}
 use Rattle.rows.specs.Limits.{most_rows}
 use Rattle.checks.specs.Refusals.{is_copy_ratio}

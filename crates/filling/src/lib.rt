@@ -4,17 +4,19 @@
 ghost use Rattle.std.specs.Prelude.{◌≡◌, ◌+◌, ◌-◌, ◌<◌, ◌≤◌, T, length, take, drop};
 ghost use Rattle.checks.specs.Refusals.{is_copy_ratio};
 ghost use Rattle.rows.specs.Limits.{most_rows};
-ghost use Rattle.store.specs.Store.{rows_of, Fit};
+ghost use Rattle.store.specs.Store.{memory_of};
+ghost use Rattle.store.specs.Lent.{rows_lent, SameStore};
+ghost use Rattle.loader.specs.Lent.{program_seen, Loadable};
 ghost use Rattle.rounds.specs.Copies.{to_copy, copies_of};
 ghost use Rattle.rounds.specs.Rounds.{stored};
-ghost use Rattle.rounds.specs.Handed.{program_of, call_of, Loadable, Callable, start_of, Holding};
+ghost use Rattle.rounds.specs.Handed.{call_of, Callable, start_of, Holding};
 ghost use Rattle.filling.specs.Filling.{with_copies, programmed_at, with_new, filled_as};
 
 use answers::finding::Finding;
-use loader::load_program;
+use loader::{Program, load_program};
 use rounds::call::{Call, Ended, Start};
-use store::copy::copy_row;
 use store::layout::Layout;
+use store::view::StoreMut;
 
 // How many of the missing executors are copies: the product rounded to the nearest whole number, halves up.
 // Twice the product is exact, so what is left to round is a half.
@@ -46,102 +48,73 @@ fn count_copies(rows: usize, kept: usize, ratio: f64) -> usize
 }
 
 // The rows after the kept ones become copies of them; each takes one tape word modulo the number kept.
-fn copy_executors(
-    words: &mut [u64],
-    marks: &mut [u8],
-    store: Layout,
-    tape: &[u64],
-    start: Start,
-    count: usize,
-)
-    requires holding { Holding store words.old marks.old start.kept }
-    requires count_bound { start.kept + count ≤ store.rows }
+fn copy_executors(store: &mut StoreMut, call: Call, start: Start, count: usize)
+    requires holding { Holding store.old start.kept }
+    requires count_bound { start.kept + count ≤ store.old.layout.rows }
     requires kept_nonzero { 0 < count → 0 < start.kept }
-    requires count_in_bounds { count ≤ length tape.now - start.used }
-    ensures { rows_of store words.new marks.new
-        ≡ stored store
-        (with_copies (start_of store words.old marks.old start).kept (take count (drop start.used tape.now))) }
+    requires count_in_bounds { count ≤ length call.tape.now - start.used }
+    ensures rows_after { rows_lent store.new
+        ≡ stored store.old.layout (with_copies (start_of store.old start).kept (take count (drop start.used call.entry.tape.now))) }
+    ensures same_store { SameStore store.old store.new }
 {
+    let tape = call.tape;
     let kept = start.kept;
     let used = start.used;
     for i in 0..count {
         let draw = tape[used + i];
-        copy_row(
-            words,
-            marks,
-            store,
-            (draw % (kept as u64)) as usize,
-            kept + i,
-        );
+        store.copy_row((draw % (kept as u64)) as usize, kept + i);
     }
 }
 
 // The program loaded into row r, which makes a new executor of a zero row.
-fn load_row(words: &mut [u64], marks: &mut [u8], call: Call, code: &[u8], data: &[u8], r: usize)
-    requires fit { Fit call.store words.old marks.old }
-    requires loadable { Loadable call.store (program_of call code.now «data».now) }
-    requires r_lt_rows { r < call.store.rows }
-    ensures { rows_of call.store words.new marks.new
-        ≡ programmed_at r (program_of call code.now «data».now) (rows_of call.store words.old marks.old) }
+fn load_row(store: &mut StoreMut, program: Program, r: usize)
+    requires loadable { Loadable (memory_of store.old.layout) (program_seen program) }
+    requires r_lt_rows { r < store.old.layout.rows }
+    ensures rows_after { rows_lent store.new ≡ programmed_at r (program_seen program.entry) (rows_lent store.old) }
+    ensures same_store { SameStore store.old store.new }
 {
-    let store = call.store;
-    let from_word = r * store.words;
-    let from_mark = r * store.marks;
+    let Layout { words, marks, .. } = store.layout;
     load_program(
-        &mut words[from_word..from_word + store.words],
-        &mut marks[from_mark..from_mark + store.marks],
-        call.code_address,
-        code,
-        call.data_address,
-        data,
+        &mut store.words[r * words..r * words + words],
+        &mut store.marks[r * marks..r * marks + marks],
+        program,
     );
 }
 
 // The zero rows, which are those from `from` on, become new executors.
-fn new_executors(
-    words: &mut [u64],
-    marks: &mut [u8],
-    call: Call,
-    code: &[u8],
-    data: &[u8],
-    from: usize,
-)
-    requires holding { Holding call.store words.old marks.old from }
-    requires loadable { Loadable call.store (program_of call code.now «data».now) }
-    ensures { rows_of call.store words.new marks.new
-        ≡ with_new call.store (program_of call code.now «data».now)
-        (take from (rows_of call.store words.old marks.old)) (call.store.rows - from) }
+fn new_executors(store: &mut StoreMut, program: Program, from: usize)
+    requires holding { Holding store.old from }
+    requires loadable { Loadable (memory_of store.old.layout) (program_seen program) }
+    ensures rows_after { rows_lent store.new
+        ≡ with_new store.old.layout (program_seen program.entry) (take from (rows_lent store.old)) (store.old.layout.rows - from) }
+    ensures same_store { SameStore store.old store.new }
 {
-    for r in from..call.store.rows {
-        load_row(words, marks, call, code, data, r);
+    for r in from..store.layout.rows {
+        load_row(store, program, r);
     }
 }
 
 // The kept rows stay; copies of them follow, then new executors. Answers how many tape words are used then; where fewer of them
 // are left than copies to make, the search ends.
 pub fn create_missing_executors(
-    words: &mut [u64],
-    marks: &mut [u8],
+    store: &mut StoreMut,
     call: Call,
-    code: &[u8],
-    data: &[u8],
-    tape: &[u64],
     start: Start,
 ) -> Result<usize, Ended>
-    requires holding { Holding call.store words.old marks.old start.kept }
-    requires callable { Callable (call_of call code.now «data».now tape.now) }
-    ensures { filled_as result (rows_of call.store words.new marks.new)
-        (call_of call code.now «data».now tape.now) (start_of call.store words.old marks.old start) }
+    requires holding { Holding store.old start.kept }
+    requires callable { Callable (call_of store.old.layout call) }
+    ensures filled { filled_as result (rows_lent store.new) (call_of store.old.layout call.entry) (start_of store.old start) }
+    ensures same_store { SameStore store.old store.new }
 {
-    let store = call.store;
-    let count = count_copies(store.rows, start.kept, call.options.copy_init_ratio);
-    if tape.len().saturating_sub(start.used) < count {
+    let rows = store.layout.rows;
+    let count = count_copies(rows, start.kept, call.options.copy_init_ratio);
+    if call.tape.len().saturating_sub(start.used) < count {
         return Err(Ended {
             finding: Finding::TapeShort,
             used: start.used,
         });
     }
-    copy_executors(words, marks, store, tape, start, count);
-    new_executors(words, marks, call, code, data, start.kept + count);
+    copy_executors(store, call, start, count);
+    new_executors(store, call.program, start.kept + count);
     Ok(start.used + count)
 }

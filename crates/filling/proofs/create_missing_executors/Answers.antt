@@ -1,21 +1,19 @@
-use Rattle.store.proofs.Rows.{fit_same}
 use Rattle.filling.proofs.Outcomes.{Planned, short_of_tape, answered, all_filled}
 use Rattle.filling.proofs.create_missing_executors.Goals as goal
 
-pub returns-then-saturating_sub-count : goal.returns-then-saturating_sub-count
-returns-then-saturating_sub-count c =
+pub returns-then-saturating_sub-count-clause-filled : goal.returns-then-saturating_sub-count-clause-filled
+returns-then-saturating_sub-count-clause-filled c =
     let n = c.count_copies-count.ensures in
-    short_of_tape c.args.code.now c.args.data.now (record { holds = c.requires.holding; counted = n.value; room = n.within; remaining = c.saturating_sub.ensures }) c.if-saturating_sub-count.true
+    short_of_tape {c = c.args.call} (record { holds = c.requires.holding; counted = n.value; room = n.within; remaining = c.saturating_sub.ensures }) c.if-saturating_sub-count.true
 
-pub returns : goal.returns
-returns c =
+pub returns-clause-filled : goal.returns-clause-filled
+returns-clause-filled c =
     let n = c.count_copies-count.ensures in
     let a = c.args in
-    let p : Planned a.call a.tape.now a.words.now a.marks.now a.start c.count_copies-count.result c.saturating_sub.result =
+    let p : Planned a.store.now a.call a.start c.count_copies-count.result c.saturating_sub.result =
     record { holds = c.requires.holding; counted = n.value; room = n.within; remaining = c.saturating_sub.ensures } in
-    let t = c.copy_executors in
-    let u = c.new_executors in (
-      answered a.code.now a.data.now p c.if-saturating_sub-count.false,
-      all_filled a.code.now a.data.now p c.if-saturating_sub-count.false (fit_same t.new.words t.new.marks c.requires.holding.fit t.auto.words t.auto.marks) t.ensures
-          u.new.words u.new.marks u.ensures,
+    let enough = c.if-saturating_sub-count.false in
+    let t = c.copy_executors.ensures in (
+      answered p enough,
+      all_filled p enough _ t.same_store t.rows_after c.new_executors.ensures.rows_after,
     )

@@ -1,7 +1,6 @@
-use Rattle.std.proofs.Common.{take}
-use Rattle.store.specs.Store.{rows_of}
-use Rattle.store.proofs.Rows.{fit_same}
-use Rattle.rounds.specs.Handed.{program_of}
+use Rattle.std.proofs.Common.{rules, take}
+use Rattle.loader.specs.Lent.{program_seen}
+use Rattle.store.specs.Lent.{rows_lent}
 use Rattle.filling.proofs.Fronts.{kept_length, new_more}
 use Rattle.filling.proofs.new_executors.Goals as goal
 
@@ -9,6 +8,8 @@ pub loop-r-preserved : goal.loop-r-preserved
 loop-r-preserved c =
     let a = c.args in
     let l = c.loop-r in
-    let t = c.load_row in
-    new_more a.call.store (take a.from (rows_of a.call.store a.words.now a.marks.now)) (program_of a.call a.code.now a.data.now) t.new.words t.new.marks
-    a.from l.r (kept_length c.requires.holding) c.loop-r.auto.r c.loop-r-test.true (fit_same t.new.words t.new.marks l.invariant.fit t.auto.words t.auto.marks) t.ensures l.invariant
+    record {
+      same_store = search rules;
+      front = new_more a.store.now.layout (take a.from (rows_lent a.store.now)) (program_seen a.program) a.from l.r
+          (kept_length c.requires.holding) l.auto.r c.loop-r-test.true c.load_row.ensures.rows_after l.invariant.front;
+    }
