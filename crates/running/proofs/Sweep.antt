@@ -1,13 +1,11 @@
 -- The loop over the rows: the runs that are made and those to come are all the runs, and what is stored is what the first have left.
-use Rattle.std.proofs.Common.{Bool, ◌≡◌, refl, sym, ap, ◌∙◌, subst, List, [], ◌∷◌, ◌++◌, map, append-nil, ℕ, suc, ◌+◌, ◌≤◌, ◌<◌, ◌^◌, add-zero, lt-suc_self, add-one, arith, length, set, take, drop, length-append, length-set, drop_of_length-le, take_all, take-suc-set, drop-cons, drop-set-lt, drop-drop, get_or-drop}
-use mathlib.Core.List.{map-append}
-use lib.Seq.{append_snoc}
+use Rattle.std.proofs.Common.{Bool, ◌≡◌, refl, sym, ap, ◌∙◌, List, [], ◌∷◌, ◌++◌, map, append-nil, ℕ, suc, ◌+◌, ◌≤◌, ◌<◌, ◌^◌, add-zero, lt-suc_self, add-one, arith, length, set, take, drop, length-append, length-set, drop_of_length-le, take_all, take-suc-set, drop-cons, drop-set-lt, drop-drop, get_or-drop}
+use Rattle.std.proofs.lemmas.List.{map-append}
+use Rattle.std.proofs.Math.Seq.{append_snoc}
 use Rattle.rows.specs.Rows.{Row, row, limit_of}
 use Rattle.machine.specs.declared.run.Ran.{Ran}
 use Rattle.machine.specs.Runs.{Finished}
-use Rattle.store.specs.declared.layout.Layout.{Layout}
-use Rattle.store.specs.Store.{Fit, rows_of, nth_row}
-use Rattle.store.proofs.Rows.{length_rows, fit_same}
+use Rattle.store.specs.Store.{nth_row}
 use Rattle.answers.specs.declared.finding.Finding.{Finding}
 use Rattle.answers.specs.declared.finding.Finding.TheVariants.{Nothing}
 use Rattle.rounds.specs.Rounds.{run_all, used_after, row_after, is_running, running_flag, first_bug, first_error, outcome_of}
@@ -36,11 +34,8 @@ drop_next l m r e = sym (once l) ∙ ap (λ (k : List Row). drop 1 k) e ∙ once
     once : (k : List Row) → drop 1 (drop r k) ≡ drop (suc r) k
     once k = drop-drop 1 r k ∙ ap (λ (n : ℕ). drop n k) (add-one r)
 
--- a store with the two lists at entry, its rows run from `start` on
-module _ (step : ℕ) (tape : List ℕ) (start : ℕ) (s : Layout) (words₀ marks₀ : List ℕ) where
-  abbrev rows : List Row
-  rows = rows_of s words₀ marks₀
-
+-- the rows at entry, run from `start` on
+module _ (step : ℕ) (tape : List ℕ) (start : ℕ) (rows : List Row) where
   abbrev runs : List Finished
   runs = run_all step tape start rows
 
@@ -49,27 +44,24 @@ module _ (step : ℕ) (tape : List ℕ) (start : ℕ) (s : Layout) (words₀ mar
   to_come used r = run_all step tape used (drop r rows)
 
   -- what holds when the first r rows are run
-  pub record Swept (words marks : List ℕ) (running : List Bool) (best : Finding) (used r : ℕ) : Type 0 where
-    pub fit : Fit s words marks
-    pub flags : length running ≡ s.rows
-    pub untouched : drop r (rows_of s words marks) ≡ drop r rows
+  pub record Swept (now : List Row) (running : List Bool) (best : Finding) (used r : ℕ) : Type 0 where
+    pub all_rows : length now ≡ length rows
+    pub all_flags : length running ≡ length rows
+    pub untouched : drop r now ≡ drop r rows
     pub done : List Finished
     pub count : r ≡ length done
     pub all : done ++ to_come used r ≡ runs
-    pub rows_done : take r (rows_of s words marks) ≡ map row_after done
+    pub rows_done : take r now ≡ map row_after done
     pub flags_done : take r running ≡ map running_flag done
     pub finding : best ≡ outcome_of done
     pub used_done : used ≡ used_after start done
 
-  all_rows : (words marks : List ℕ) → length (rows_of s words marks) ≡ s.rows
-  all_rows = length_rows s.rows s.words s.marks
-
-  pub none_run : (running : List Bool) → Fit s words₀ marks₀ → length running ≡ s.rows → Swept words₀ marks₀ running Nothing start 0
+  pub none_run : (running : List Bool) → length running ≡ length rows → Swept rows running Nothing start 0
   unfolding used_after first_bug first_error
-  none_run running f e =
+  none_run running e =
       record {
-        fit = f;
-        flags = e;
+        all_rows = refl;
+        all_flags = e;
         untouched = refl;
         done = [];
         count = refl;
@@ -80,38 +72,34 @@ module _ (step : ℕ) (tape : List ℕ) (start : ℕ) (s : Layout) (words₀ mar
         used_done = refl;
       }
 
-  module _ {words marks : List ℕ} {running : List Bool} {best : Finding} {used r : ℕ} (k : Swept words marks running best used r) where
+  module _ {now : List Row} {running : List Bool} {best : Finding} {used r : ℕ} (k : Swept now running best used r) where
     -- row r is as it was at entry
-    same_row : nth_row (rows_of s words marks) r ≡ nth_row rows r
-    same_row = sym (first (rows_of s words marks) r) ∙ ap (λ (l : List Row). nth_row l 0) k.untouched ∙ first rows r
+    same_row : nth_row now r ≡ nth_row rows r
+    same_row = sym (first now r) ∙ ap (λ (l : List Row). nth_row l 0) k.untouched ∙ first rows r
 
-    module _ (h : r < s.rows) where
-      here : (words marks : List ℕ) → r < length (rows_of s words marks)
-      here words marks = subst (λ (n : ℕ). r < n) (sym (all_rows words marks)) h
-
-      pub allowed : LimitsAllow step rows → limit_of (nth_row (rows_of s words marks) r) + step < 2 ^ 64
-      allowed l = rw same_row (l r (here words₀ marks₀))
+    module _ (h : r < length rows) where
+      pub allowed : LimitsAllow step rows → limit_of (nth_row now r) + step < 2 ^ 64
+      allowed l = rw same_row (l r h)
 
       -- its run
       abbrev this : Finished
-      this = row_run step tape used r (rows_of s words marks)
+      this = row_run step tape used r now
 
       this_first : to_come used r ≡ this ∷ to_come this.ran.used (suc r)
       unfolding run_all
-      this_first = rw (same_row, drop-cons rows r (row [] []) (here words₀ marks₀))
+      this_first = rw (same_row, drop-cons rows r (row [] []) h)
 
-      module _ (words' marks' : List ℕ) (running' : List Bool) (ew : length words' ≡ length words) (em : length marks' ≡ length marks)
-          (e : rows_of s words' marks' ≡ with_row_run step tape used r (rows_of s words marks)) where
+      module _ {now' : List Row} {running' : List Bool} (e : now' ≡ with_row_run step tape used r now) where
         next : (best' : Finding) → running' ≡ set running r (running_flag this) → best' ≡ outcome_of (k.done ++ (this ∷ []))
-            → Swept words' marks' running' best' this.ran.used (suc r)
+            → Swept now' running' best' this.ran.used (suc r)
         next best' q b =
             record {
-              fit = fit_same words' marks' k.fit ew em;
-              flags = ap length q ∙ length-set running r (running_flag this) ∙ k.flags;
+              all_rows = ap length e ∙ length-set now r (row_after this) ∙ k.all_rows;
+              all_flags = ap length q ∙ length-set running r (running_flag this) ∙ k.all_flags;
               untouched =
                   ap (λ (l : List Row). drop (suc r) l) e
-                  ∙ drop-set-lt (suc r) (rows_of s words marks) r (row_after this) (lt-suc_self r)
-                  ∙ drop_next (rows_of s words marks) rows r k.untouched;
+                  ∙ drop-set-lt (suc r) now r (row_after this) (lt-suc_self r)
+                  ∙ drop_next now rows r k.untouched;
               done = k.done ++ (this ∷ []);
               count = omega (arith, k.count, length-append k.done (this ∷ []));
               all =
@@ -120,10 +108,10 @@ module _ (step : ℕ) (tape : List ℕ) (start : ℕ) (s : Layout) (words₀ mar
                   ∙ k.all;
               rows_done =
                   ap (λ (l : List Row). take (suc r) l) e
-                  ∙ one_more row_after (rows_of s words marks) r k.done this (here words marks) k.rows_done;
+                  ∙ one_more row_after now r k.done this (omega (arith, k.all_rows)) k.rows_done;
               flags_done =
                   ap (λ (l : List Bool). take (suc r) l) q
-                  ∙ one_more running_flag running r k.done this (omega (arith, k.flags)) k.flags_done;
+                  ∙ one_more running_flag running r k.done this (omega (arith, k.all_flags)) k.flags_done;
               finding = b;
               used_done = used_last start k.done this;
             }
@@ -132,25 +120,25 @@ module _ (step : ℕ) (tape : List ℕ) (start : ℕ) (s : Layout) (words₀ mar
         pub is_one_run : (ran : Ran) (best' : Finding) → ran ≡ this.ran → running' ≡ set running r (is_running ran.progress)
             → ((before : List Finished) (last : Finished) → best ≡ outcome_of before → r ≡ length before → ran ≡ last.ran
             → best' ≡ outcome_of (before ++ (last ∷ [])))
-            → Swept words' marks' running' best' ran.used (r + 1)
+            → Swept now' running' best' ran.used (r + 1)
         is_one_run ran best' a q b =
             rw (add-one r, a)
             (next best' (q ∙ ap (λ (z : Ran). set running r (is_running z.progress)) a) (b k.done this k.finding k.count a))
 
-    module _ (h : s.rows ≤ r) where
+    module _ (h : length rows ≤ r) where
       none_to_come : to_come used r ≡ []
       unfolding run_all
-      none_to_come = rw (drop_of_length-le rows {i = r} (omega (arith, all_rows words₀ marks₀)))
+      none_to_come = rw (drop_of_length-le rows {i = r} h)
 
       all_done : k.done ≡ runs
       all_done = sym (append-nil k.done) ∙ ap (λ (l : List Finished). k.done ++ l) (sym none_to_come) ∙ k.all
 
       pub all_run : (◌≡◌ {A = Ended} (record { finding = best; used = used }) (all_ran start runs))
-          × (rows_of s words marks ≡ map row_after runs) × (running ≡ map running_flag runs)
+          × (now ≡ map row_after runs) × (running ≡ map running_flag runs)
       all_run = (
         ap (λ (f : Finding). record { finding = f; used = used }) k.finding
             ∙ ap (λ (n : ℕ). record { finding = outcome_of k.done; used = n }) k.used_done
             ∙ ap (all_ran start) all_done,
-        sym (take_all r (rows_of s words marks) (omega (arith, all_rows words marks))) ∙ k.rows_done ∙ ap (map row_after) all_done,
-        sym (take_all r running (omega (arith, k.flags))) ∙ k.flags_done ∙ ap (map running_flag) all_done,
+        sym (take_all r now (omega (arith, k.all_rows))) ∙ k.rows_done ∙ ap (map row_after) all_done,
+        sym (take_all r running (omega (arith, k.all_flags))) ∙ k.flags_done ∙ ap (map running_flag) all_done,
       )
