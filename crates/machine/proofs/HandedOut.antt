@@ -1,12 +1,7 @@
 -- A write call that is handed out lies in memory: its check, carried through the step and the run.
-use mathlib.Core.Bool.{Bool, true, false, cond}
-use mathlib.Core.List.{List}
-use mathlib.Core.Path.{◌≡◌, sym, subst}
-use Prim.Native.Nat.{ℕ, zero, suc, ◌+◌, ◌-◌, ◌/◌, ◌<◌}
-use native.Mathlib.Omega.{arith}
+use Rattle.std.proofs.Common.{Bool, true, false, cond, List, ◌≡◌, sym, subst, ℕ, zero, suc, ◌+◌, ◌-◌, ◌/◌, ◌<◌, arith, Option, Some, None, Result, Ok, Err}
 use Rattle.riscu.specs.Decoding.{decoded}
 use Rattle.riscu.specs.declared.instruction.Instruction.{Instruction}
-use Rattle.std.specs.Prelude.{Option, Some, None, Result, Ok, Err}
 use Rattle.answers.specs.declared.error.ExecutorError.{ExecutorError}
 use Rattle.answers.specs.declared.outcome.Outcome.{Outcome}
 use Rattle.answers.specs.declared.outcome.Progress.{Progress}

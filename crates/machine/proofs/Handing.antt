@@ -1,10 +1,5 @@
 -- The one loop is a run of either kind: told to complete its write calls it is `run_of`, told to hand them out it is `paused_of`.
-use mathlib.Core.Bool.{true, false}
-use mathlib.Core.Path.{◌≡◌, refl, ap, ◌∙◌}
-use mathlib.Core.List.{List}
-use Prim.Native.Nat.{ℕ, zero, suc, ◌+◌, ◌-◌}
-use native.Mathlib.Omega.{arith}
-use lib.Seq.{get_or-set_other}
+use Rattle.std.proofs.Common.{true, false, ◌≡◌, refl, ap, ◌∙◌, List, ℕ, zero, suc, ◌+◌, ◌-◌, arith, get_or-set_other}
 use Rattle.rows.specs.Rows.{Row, pc_of, depth_of, limit_of, set_limit}
 use Rattle.calls.specs.Calls.{completed}
 use Rattle.calls.specs.declared.step.Step.{Step}

@@ -1,14 +1,7 @@
 -- What an instruction leaves alone: the lengths of a row and its limit; and depth grows by 1.
-use mathlib.Core.Bool.{Bool, true, false}
-use mathlib.Core.Path.{◌≡◌, refl, ◌∙◌}
-use mathlib.Core.List.{List}
-use Prim.Native.Nat.{ℕ, ◌+◌, ◌<◌}
-use native.Mathlib.Omega.{arith}
-use lib.ListN.{length, length-set}
-use lib.Seq.{get_or-set_same, get_or-set_other}
+use Rattle.std.proofs.Common.{Bool, true, false, ◌≡◌, refl, ◌∙◌, List, ℕ, ◌+◌, ◌<◌, arith, length, length-set, get_or-set_same, get_or-set_other, Option, Some, None, Result, Ok, Err}
 use Rattle.riscu.specs.Decoding.{decoded}
 use Rattle.riscu.specs.declared.instruction.Instruction.{Instruction}
-use Rattle.std.specs.Prelude.{Option, Some, None, Result, Ok, Err}
 use Rattle.answers.specs.declared.error.ExecutorError.{ExecutorError}
 use Rattle.effects.specs.declared.effect.Effect.{Effect}
 use Rattle.rows.specs.Rows.{Row, depth_of, limit_of}

@@ -1,14 +1,7 @@
 -- The turns of a run: what each leaves of `halted_for` is what the run still has to do.
-use mathlib.Core.Bool.{Bool}
-use mathlib.Core.Path.{◌≡◌, refl, sym, ap, ◌∙◌}
-use mathlib.Core.List.{List}
-use Prim.Native.Nat.{ℕ, suc, ◌+◌, ◌-◌, ◌≤◌, ◌<◌}
-use native.Mathlib.Nat.{sub-eq-zero_of_le}
-use native.Mathlib.Omega.{arith}
-use lib.ListN.{length}
+use Rattle.std.proofs.Common.{Bool, ◌≡◌, refl, sym, ap, ◌∙◌, List, ℕ, suc, ◌+◌, ◌-◌, ◌≤◌, ◌<◌, sub-eq-zero_of_le, arith, length, Option, None, Ok, Err}
 use Rattle.riscu.specs.Decoding.{decoded}
 use Rattle.riscu.specs.declared.instruction.Instruction.{Instruction}
-use Rattle.std.specs.Prelude.{Option, None, Ok, Err}
 use Rattle.answers.specs.declared.error.ExecutorError.TheVariants.{InvalidInstructionEncoding}
 use Rattle.answers.specs.declared.error.ExecutorError.{ExecutorError}
 use Rattle.answers.specs.declared.outcome.Outcome.TheVariants.{Failed}
