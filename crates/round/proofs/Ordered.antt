@@ -1,6 +1,6 @@
 -- The test for 31 on the scores of all rows is that on the scores of the running ones: the 0 of the other rows can be ordered.
 use Rattle.std.proofs.Common.{Bool, true, false, ◌&&◌, List, [], ◌∷◌, map, ◌≡◌, refl, ap}
-use lib.Ieee.{le, of_int}
+use Rattle.std.specs.Float.Ieee.{le, of_int}
 use Rattle.rows.specs.Rows.{Row}
 use Rattle.means.specs.Means.{whole}
 use Rattle.means.specs.declared.MeanType.{MeanType}

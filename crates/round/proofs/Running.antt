@@ -3,8 +3,8 @@ use Rattle.std.proofs.Common.{◌≡◌, refl, sym, ap, ◌∙◌, Bool, List, m
 use Rattle.std.proofs.lemmas.List.{length-map}
 use Rattle.rows.specs.Rows.{Row}
 use Rattle.machine.specs.Runs.{Finished}
-use Rattle.store.specs.declared.layout.Layout.{Layout}
-use Rattle.store.specs.Store.{rows_of}
+use Rattle.store.specs.declared.view.StoreMut.{StoreMut}
+use Rattle.store.specs.Lent.{rows_lent}
 use Rattle.store.proofs.Rows.{length_rows}
 use Rattle.counting.specs.Counters.{taking}
 use Rattle.answers.specs.declared.finding.Finding.{Finding}
@@ -23,21 +23,21 @@ ends_with (Failed error i pc) rows used next h = refl
 ends_with TapeShort rows used next h = refl
 ends_with ScoresUnordered rows used next h = refl
 
-module _ (o : RaritySimulationOptions) (tape : List ℕ) (used : ℕ) (s : Layout) (words marks : List ℕ) where
+module _ (o : RaritySimulationOptions) (tape : List ℕ) (used : ℕ) (s : StoreMut) where
   abbrev runs : List Finished
-  runs = run_all o.step_size tape used (rows_of s words marks)
+  runs = run_all o.step_size tape used (rows_lent s)
 
   abbrev next : After
   next = selected o (map row_after runs) (used_after used runs) (still_running runs)
 
-  pub flags_many : length (map running_flag runs) ≡ s.rows
+  pub flags_many : length (map running_flag runs) ≡ s.layout.rows
   flags_many =
       length-map runs running_flag
-      ∙ run_all_length o.step_size tape used (rows_of s words marks)
-      ∙ length_rows s.rows s.words s.marks words marks
+      ∙ run_all_length o.step_size tape used (rows_lent s)
+      ∙ length_rows s.layout.rows s.layout.words s.layout.marks s.words.now s.marks.now
 
   module _ {all : Ended} (ran : all ≡ all_ran used runs) {rows : List Row} (after : rows ≡ map row_after runs) where
-    pub ended : (all.finding ≡ Nothing → ⊥) → ends all.finding rows all.used ≡ (ran_on o tape used (rows_of s words marks)).after
+    pub ended : (all.finding ≡ Nothing → ⊥) → ends all.finding rows all.used ≡ (ran_on o tape used (rows_lent s)).after
     unfolding ran_on
     ended h =
         ends_with all.finding rows all.used next h
@@ -45,7 +45,7 @@ module _ (o : RaritySimulationOptions) (tape : List ℕ) (used : ℕ) (s : Layou
         ∙ ap (λ (l : List Row). ends_or (outcome_of runs) l (used_after used runs) next) after
 
     pub selects : {flags : List Bool} {t : After} → flags ≡ map running_flag runs → all.finding ≡ Nothing
-        → t ≡ selected o rows all.used (taking flags rows) → t ≡ (ran_on o tape used (rows_of s words marks)).after
+        → t ≡ selected o rows all.used (taking flags rows) → t ≡ (ran_on o tape used (rows_lent s)).after
     unfolding ran_on
     selects {flags} flagged nothing e =
         e
