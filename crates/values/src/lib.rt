@@ -1,8 +1,8 @@
-// Values, and how they are stored: a word and a mark beside it. For the layers above.
+// Values, and how they are stored: a word and a mark beside it. And the bytes of a word. For the layers above.
 #![tactic(auto)]
 
 ghost use Rattle.std.specs.Prelude.{◌≡◌, ◌<◌, length};
-ghost use Rattle.values.specs.Values.{value_at, RegisterFile};
+ghost use Rattle.values.specs.Values.{value_at, byte_of, RegisterFile};
 
 // What a register or a memory word holds.
 #[derive(Clone, Copy)]
@@ -24,6 +24,14 @@ pub fn value_at(words: &[u64], marks: &[u8], n: usize) -> Value
     } else {
         Value::Concrete(words[n])
     }
+}
+
+// Byte k of a word, the lowest being byte 0.
+pub fn byte_of(word: u64, k: u64) -> u8
+    requires { k < 8 }
+    ensures { result ≡ byte_of word k }
+{
+    ((word >> (8 * k)) % 256) as u8
 }
 
 // The words and marks of registers, and of what follows them.
