@@ -7,14 +7,10 @@ ghost use Rattle.machine.specs.Writes.{byte_at, bytes_from};
 
 use calls::system::complete_write;
 use rows::row::{RowMut, RowRef};
-use values::Value;
+use values::{Value, byte_of};
 
-// A word has this many bytes,
+// A word has this many bytes.
 const BYTES: u64 = 8;
-// a byte this many bits
-const BITS: u64 = 8;
-// and this many values.
-const BYTE_VALUES: u64 = 256;
 
 // The byte at an address of memory.
 fn byte_at(row: RowRef, address: u64) -> u8
@@ -22,7 +18,7 @@ fn byte_at(row: RowRef, address: u64) -> u8
     ensures { result ≡ byte_at (seen row.entry) address }
 {
     match row.read_memory((address / BYTES) as usize) {
-        Value::Concrete(word) => ((word >> (BITS * (address % BYTES))) % BYTE_VALUES) as u8,
+        Value::Concrete(word) => byte_of(word, address % BYTES),
         Value::Uninitialized => 0,
     }
 }
