@@ -3,10 +3,11 @@ use Rattle.std.proofs.Common.{◌≡◌, ℕ, zero, suc, ◌+◌, ◌-◌, ◌*�
 use Rattle.std.proofs.lemmas.Bool.{eqb-false}
 use Rattle.laws.proofs.Absurd.{impossible}
 use Rattle.laws.proofs.Sums.{sum, sum_same, sum_none, sum_one, sum_swap, sum_most}
+use Rattle.values.specs.Values.{byte_of}
 use Rattle.values.specs.declared.Value.{Value}
 use Rattle.values.specs.declared.Value.TheVariants.{Concrete, Uninitialized}
 use Rattle.rows.specs.Rows.{Row}
-use Rattle.counting.specs.Cells.{place_at, places, cell_of, byte_of, address_of, byte_addresses, word_addresses, addresses_to, addresses_of}
+use Rattle.counting.specs.Cells.{place_at, places, cell_of, address_of, byte_addresses, word_addresses, addresses_to, addresses_of}
 use Rattle.counting.specs.Counters.{occurrences}
 use Rattle.counting.specs.Probes.{place_of, matches, matches_at, probe}
 use Rattle.counting.proofs.Places.{place_base, base_place}

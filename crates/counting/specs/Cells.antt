@@ -1,7 +1,8 @@
 -- What scoring looks at in a state ("Scoring" in document 01): its cells and their byte values, in list order.
 -- Places are what is listed: pc is place 0, slot n is place 1 + n, so register r is place 1 + r and memory word m is place 33 + m.
-use Rattle.std.specs.Prelude.{cond, List, [], ◌∷◌, ◌++◌, ℕ, zero, suc, ◌+◌, ◌-◌, ◌*◌, ◌/◌, ◌%◌, ◌^◌, ltb, length}
+use Rattle.std.specs.Prelude.{cond, List, [], ◌∷◌, ◌++◌, ℕ, zero, suc, ◌+◌, ◌-◌, ◌*◌, ltb, length}
 use Rattle.values.specs.Values.{register_count}
+use Rattle.values.specs.Values.{byte_of}
 use Rattle.values.specs.declared.Value.{Value}
 use Rattle.values.specs.declared.Value.TheVariants.{Concrete, Uninitialized}
 use Rattle.rows.specs.Rows.{Row, pc_of, slot_at}
@@ -35,10 +36,6 @@ base_of (suc n) = cond (ltb n register_count) (first_register_cell + n) (first_m
 -- the cell of byte b of a place; cells of different places overlap
 abbrev pub cell_of : ℕ → ℕ → ℕ
 cell_of place b = base_of place + 8 * b
-
--- byte b of a word, the lowest being byte 0
-abbrev pub byte_of : ℕ → ℕ → ℕ
-byte_of x b = x / 2 ^ (8 * b) % 256
 
 -- a cell together with a byte value
 abbrev pub address_of : ℕ → ℕ → ℕ

@@ -1,10 +1,11 @@
 -- A stepping stone between contracts: how a counter is found. Byte b of a word lies in a cell only if the word's lowest byte lies 8 * b cells
 -- before it, so that at most eight words of a row are looked at.
 use Rattle.std.specs.Prelude.{Bool, false, cond, Option, Some, None, ℕ, ◌+◌, ◌-◌, ◌*◌, eqb, ltb, length}
+use Rattle.values.specs.Values.{byte_of}
 use Rattle.values.specs.declared.Value.{Value}
 use Rattle.values.specs.declared.Value.TheVariants.{Concrete, Uninitialized}
 use Rattle.rows.specs.Rows.{Row}
-use Rattle.counting.specs.Cells.{first_memory_place, first_register_cell, first_memory_cell, place_at, byte_of}
+use Rattle.counting.specs.Cells.{first_memory_place, first_register_cell, first_memory_cell, place_at}
 
 -- the place whose lowest byte is in a cell
 unfoldable pub place_of : ℕ → Option ℕ

@@ -2,12 +2,12 @@
 ghost use Rattle.std.specs.Prelude.{◌≡◌, ◌≤◌, ◌<◌, length};
 ghost use Rattle.rows.specs.Lent.{seen};
 ghost use Rattle.store.specs.Store.{most_marks};
-ghost use Rattle.counting.specs.Cells.{place_at, base_of, byte_of, address_of, addresses_of};
+ghost use Rattle.counting.specs.Cells.{place_at, base_of, address_of, addresses_of};
 ghost use Rattle.counting.specs.Counters.{occurrences};
 ghost use Rattle.counting.specs.Probes.{place_of, probe};
 
 use rows::row::{PC, REGISTERS, RowRef};
-use values::Value;
+use values::{Value, byte_of};
 
 // The cells of the lowest bytes: pc is in cell 0, register r in FIRST_REGISTER_CELL + r, memory word m in FIRST_MEMORY_CELL + m.
 const FIRST_REGISTER_CELL: usize = 8;
@@ -18,7 +18,7 @@ const FIRST_MEMORY_CELL: usize = 264;
 const BYTE_STRIDE: usize = 8;
 
 // A word has so many bytes.
-pub const BYTES: u32 = 8;
+pub const BYTES: u64 = 8;
 
 // The value at a place: pc is place 0, slot n is place 1 + n.
 #[tactic(auto, unfolding(crate::specs::Cells::place_at))]
@@ -50,15 +50,6 @@ pub fn base_of(place: usize) -> usize
     }
 }
 
-// Byte b of a word, the lowest being byte 0.
-pub fn byte_of(x: u64, b: u32) -> u64
-    requires { b < 8 }
-    ensures value { result ≡ byte_of x b }
-    ensures a_byte { result < 256 }
-{
-    (x >> (8 * b)) % 256
-}
-
 // The place whose lowest byte is in a cell: one at most.
 #[tactic(auto, unfolding(crate::specs::Probes::place_of))]
 fn place_of(base: usize) -> Option<usize>
@@ -82,7 +73,7 @@ fn place_of(base: usize) -> Option<usize>
 
 // Whether a row has a byte value in a cell as byte b of a word. At most one word has its byte b in that cell.
 #[tactic(auto, unfolding(crate::specs::Probes::probe, crate::specs::Probes::matches_at, crate::specs::Probes::matches))]
-fn hit(row: RowRef, cell: usize, byte: u64, b: u32) -> bool
+fn hit(row: RowRef, cell: usize, byte: u8, b: u64) -> bool
     requires { b < 8 }
     ensures { result ≡ probe (seen row.entry) cell byte b }
 {
@@ -103,8 +94,7 @@ fn hit(row: RowRef, cell: usize, byte: u64, b: u32) -> bool
 }
 
 // How often a row has a byte value in a cell.
-pub(crate) fn hits(row: RowRef, cell: usize, byte: u64) -> u64
-    requires { byte < 256 }
+pub(crate) fn hits(row: RowRef, cell: usize, byte: u8) -> u64
     ensures value { result ≡ occurrences (address_of cell byte) (addresses_of (seen row.entry)) }
     ensures at_most_eight { result ≤ 8 }
 {

@@ -2,6 +2,7 @@
 use Rattle.std.proofs.Common.{◌≡◌, sym, ap, ◌∙◌, subst, Bool, true, false, cond, List, [], ◌∷◌, ◌++◌, map, append_assoc, append-nil, ℕ, zero, suc, ◌+◌, ◌-◌, ◌*◌, ◌≤◌, ◌<◌, add-one, arith, ltb, lit≤, length, get_or, set, take, length-set, take-suc, take-suc-set, take_all, Float}
 use mathlib.Core.List.{map-append}
 use lib.Ieee.{nan}
+use Rattle.values.specs.Values.{byte_of}
 use Rattle.values.specs.declared.Value.{Value}
 use Rattle.values.specs.declared.Value.TheVariants.{Concrete, Uninitialized}
 use Rattle.rows.specs.Rows.{Row}
@@ -13,7 +14,7 @@ use Rattle.means.specs.declared.Tally.{Tally}
 use Rattle.means.specs.Means.{whole, sum}
 use Rattle.means.specs.Tallies.{tally, with_counter, Within, most_counters}
 use Rattle.means.proofs.Taking.{tally_more}
-use Rattle.counting.specs.Cells.{first_register_cell, first_memory_cell, place_at, base_of, cell_of, byte_of, address_of, byte_addresses, word_addresses, addresses_to}
+use Rattle.counting.specs.Cells.{first_register_cell, first_memory_cell, place_at, base_of, cell_of, address_of, byte_addresses, word_addresses, addresses_to}
 use Rattle.counting.specs.Counters.{highest_counter, counter_in, counters_of, taking}
 use Rattle.rarity.proofs.Among.{score_at, scores_length}
 use Rattle.rarity.specs.Taken.{Taken}

@@ -10,11 +10,11 @@ ghost use Rattle.counting.specs.Counters.{taking};
 ghost use Rattle.rarity.specs.Taken.{Taken, row_counters, row_score};
 ghost use Rattle.rarity.specs.Scores.{flagged_scores, are_ordered};
 
-use counting::cells::{BYTES, base_of, byte_of, place_at};
+use counting::cells::{BYTES, base_of, place_at};
 use counting::counter::counter;
 use means::{MeanType, Tally};
 use store::view::StoreRef;
-use values::Value;
+use values::{Value, byte_of};
 
 // Takes in the eight counters of a concrete word.
 fn tally_word(store: StoreRef, flags: &[bool], so_far: Tally, place: usize, x: u64) -> Tally

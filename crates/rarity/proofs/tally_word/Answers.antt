@@ -12,6 +12,6 @@ pub loop-b-preserved : goal.loop-b-preserved
 loop-b-preserved c =
     record {
       taken =
-          bytes_turn _ _ c.loop-b.b c.loop-b.invariant.taken c.base_of-base.ensures c.byte_of-byte.ensures.value c.counter.ensures.value c.add-t.ensures;
+          bytes_turn _ _ c.loop-b.b c.loop-b.invariant.taken c.base_of-base.ensures c.byte_of-byte.ensures c.counter.ensures.value c.add-t.ensures;
       small = within_more c.loop-b.invariant.small c.counter.ensures.at_most c.add-t.ensures (omega arith);
     }

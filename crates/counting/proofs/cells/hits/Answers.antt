@@ -22,4 +22,4 @@ loop-b-preserved c =
 pub returns-clause-value : goal.returns-clause-value
 returns-clause-value c =
     let e : c.loop-b.b ≡ 8 = omega arith in
-    rw e at c.loop-b.invariant.so_far ∙ hits_occur _ _ _ c.requires
+    rw e at c.loop-b.invariant.so_far ∙ hits_occur _ _ _ (omega (arith, c.ranges.byte.fits))

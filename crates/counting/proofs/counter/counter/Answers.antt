@@ -8,8 +8,8 @@ loop-r-preserved c =
     record {
       left =
           elim c.if-flags-r.branch [
-            | then-flags-r w ↦ count_taken c.args.store.fit _ c.requires.a_flag_each _ _ _ _ _ (omega arith) _ w.n-is w.if-flags-r.true c.loop-r.invariant.left _ w.row.ensures.value w.hits-n.ensures.value
-            | else-flags-r w ↦ count_passed c.args.store.fit _ c.requires.a_flag_each _ _ _ _ _ (omega arith) w.n-is w.if-flags-r.false c.loop-r.invariant.left
+            | then-flags-r w ↦ count_taken c.args.store.fit _ c.requires _ _ _ _ _ (omega arith) _ w.n-is w.if-flags-r.true c.loop-r.invariant.left _ w.row.ensures.value w.hits-n.ensures.value
+            | else-flags-r w ↦ count_passed c.args.store.fit _ c.requires _ _ _ _ _ (omega arith) w.n-is w.if-flags-r.false c.loop-r.invariant.left
           ];
       few = elim c.if-flags-r.branch [ then-flags-r w ↦ omega arith | else-flags-r w ↦ omega arith ];
     }
