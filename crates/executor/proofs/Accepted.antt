@@ -2,7 +2,8 @@
 use Rattle.std.proofs.Common.{Result, Ok, Err, ◌≡◌, sym, ◌∙◌, Bool, [], ◌∷◌, ℕ, ◌-◌, ◌/◌, ◌^◌, ◌<◌, ◌≤◌, arith, length}
 use Rattle.rows.specs.Rows.{Row, Shape, limit_of}
 use Rattle.rows.specs.Valid.{valid_row}
-use Rattle.loader.specs.Loading.{Program, Fits}
+use Rattle.loader.specs.Loading.{Program}
+use Rattle.loader.specs.Lent.{Loadable}
 use Rattle.checks.specs.Segments.{segment_tests}
 use Rattle.checks.specs.Tests.{test, checked_by}
 use Rattle.checks.specs.declared.refusal.Refusal.{Refusal}
@@ -54,5 +55,7 @@ module _ (memory log : ℕ) (r : Row) {sizes : Result (Unit {0}) Refusal} (e : s
       unfolding creation_checked
       creation_tested = g ∙ sym (then_others (size_tests memory log r) e (segment_tests (memory / 8) p) h)
 
-      pub creation_fits : segments ≡ Ok tt → Fits (length r.marks - 32) p.code_segment × Fits (length r.marks - 32) p.data_segment
-      creation_fits k = rw (sizes_accepted h).memory_in_words (segments_fit (memory / 8) p (all_pass (segment_tests (memory / 8) p) g k))
+      pub creation_fits : segments ≡ Ok tt → Loadable (length r.marks - 32) p
+      creation_fits k =
+          let f = segments_fit (memory / 8) p (all_pass (segment_tests (memory / 8) p) g k) in
+          rw (sizes_accepted h).memory_in_words (record { code_fits = f.0; data_fits = f.1 })

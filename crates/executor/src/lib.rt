@@ -5,7 +5,7 @@
 
 ghost use Rattle.std.specs.Prelude.{◌≡◌, ◌/◌};
 ghost use Rattle.rows.specs.Rows.{row};
-ghost use Rattle.loader.specs.Loading.{image};
+ghost use Rattle.loader.specs.Lent.{program_seen};
 ghost use Rattle.checks.specs.Tests.{checked_by};
 ghost use Rattle.executor.specs.Entries.{creation_checked, created_row, size_tests, run_entry, answered};
 ghost use Rattle.executor.specs.Entries.{pc_of_end, run_answer};
@@ -15,7 +15,9 @@ use answers::outcome::{Outcome, Progress};
 use checks::refusal::{Refusal, are_lengths, is_log_size, is_memory_size, test};
 use checks::segments::check_segments;
 use checks::valid_row::valid_row;
+use loader::Program;
 use machine::run::Ran;
+use rows::row::RowRef;
 
 const ONE_ROW: u64 = 1;
 
@@ -42,19 +44,14 @@ pub fn new_executor(
     marks: &mut [u8],
     memory: u64,
     log: u64,
-    code_address: u64,
-    code: &[u8],
-    data_address: u64,
-    data: &[u8],
+    program: Program,
 ) -> Result<(), Refusal>
-    ensures value { result ≡ creation_checked memory log (image code_address code.now data_address «data».now)
-        (row words.old marks.old) }
-    ensures row_after { row words.new marks.new
-        ≡ created_row result (image code_address code.now data_address «data».now) (row words.old marks.old) }
+    ensures value { result ≡ creation_checked memory log (program_seen program.entry) (row words.old marks.old) }
+    ensures row_after { row words.new marks.new ≡ created_row result (program_seen program.entry) (row words.old marks.old) }
 {
     check_sizes(words, marks, memory, log)?;
-    check_segments(memory / 8, code_address, code, data_address, data)?;
-    loader::new_executor(words, marks, code_address, code, data_address, data);
+    check_segments(memory / 8, program)?;
+    loader::new_executor(words, marks, program);
     Ok(())
 }
 
@@ -72,7 +69,7 @@ pub fn run(
         ≡ run_entry memory log step tape.now (row words.old marks.old) }
 {
     check_sizes(words, marks, memory, log)?;
-    test(valid_row(words, marks), Refusal::InvalidRow)?;
+    test(valid_row(RowRef { words, marks }), Refusal::InvalidRow)?;
     Ok(machine::run::run(words, marks, step, tape, 0))
 }
 

@@ -1,7 +1,7 @@
 use Rattle.std.proofs.Common.{sym, ◌∙◌}
 use Rattle.std.proofs.lemmas.Result.{err_from_is_err_and}
 use Rattle.rows.specs.Rows.{row}
-use Rattle.loader.specs.Loading.{image}
+use Rattle.loader.specs.Lent.{program_seen}
 use Rattle.executor.proofs.Accepted.{sizes_accepted, creation_refused, creation_tested, creation_fits}
 use Rattle.executor.proofs.new_executor.Goals as goal
 
@@ -10,7 +10,7 @@ returns-in_err-check_sizes-clause-value c =
     let a = c.args in
     let e = err_from_is_err_and c.from_residual.result c.from_residual.ensures.1 in
     rw (e.1, e.2)
-    (creation_refused a.memory a.log (row a.words.now a.marks.now) c.check_sizes.ensures (image a.code_address a.code.now a.data_address a.data.now) c.in_err-check_sizes.was)
+    (creation_refused a.memory a.log (row a.words.now a.marks.now) c.check_sizes.ensures (program_seen a.program) c.in_err-check_sizes.was)
 
 pub returns-in_err-check_segments-clause-value : goal.returns-in_err-check_segments-clause-value
 returns-in_err-check_segments-clause-value c =
@@ -18,7 +18,7 @@ returns-in_err-check_segments-clause-value c =
     let e = err_from_is_err_and c.from_residual-in_err-check_segments.result c.from_residual-in_err-check_segments.ensures.1 in
     rw (e.1, e.2)
     (sym c.in_err-check_segments.was
-    ∙ creation_tested a.memory a.log (row a.words.now a.marks.now) c.check_sizes.ensures (image a.code_address a.code.now a.data_address a.data.now) c.in_ok-check_sizes.was c.check_segments.ensures)
+    ∙ creation_tested a.memory a.log (row a.words.now a.marks.now) c.check_sizes.ensures (program_seen a.program) c.in_ok-check_sizes.was c.check_segments.ensures)
 
 pub new_executor-requires-clause-shape : goal.new_executor-requires-clause-shape
 new_executor-requires-clause-shape c =
@@ -30,17 +30,12 @@ new_executor-requires-clause-some_memory c =
     let a = c.args in
     (sizes_accepted a.memory a.log (row a.words.now a.marks.now) c.check_sizes.ensures c.in_ok-check_sizes.was).some_memory
 
-pub new_executor-requires-clause-code_fits : goal.new_executor-requires-clause-code_fits
-new_executor-requires-clause-code_fits c =
+pub new_executor-requires-clause-loadable : goal.new_executor-requires-clause-loadable
+new_executor-requires-clause-loadable c =
     let a = c.args in
-    (creation_fits a.memory a.log (row a.words.now a.marks.now) c.check_sizes.ensures (image a.code_address a.code.now a.data_address a.data.now) c.in_ok-check_sizes.was c.check_segments.ensures c.in_ok-check_segments.was).0
-
-pub new_executor-requires-clause-data_fits : goal.new_executor-requires-clause-data_fits
-new_executor-requires-clause-data_fits c =
-    let a = c.args in
-    (creation_fits a.memory a.log (row a.words.now a.marks.now) c.check_sizes.ensures (image a.code_address a.code.now a.data_address a.data.now) c.in_ok-check_sizes.was c.check_segments.ensures c.in_ok-check_segments.was).1
+    creation_fits a.memory a.log (row a.words.now a.marks.now) c.check_sizes.ensures (program_seen a.program) c.in_ok-check_sizes.was c.check_segments.ensures c.in_ok-check_segments.was
 
 pub returns-clause-value : goal.returns-clause-value
 returns-clause-value c =
     let a = c.args in
-    sym c.in_ok-check_segments.was ∙ creation_tested a.memory a.log (row a.words.now a.marks.now) c.check_sizes.ensures (image a.code_address a.code.now a.data_address a.data.now) c.in_ok-check_sizes.was c.check_segments.ensures
+    sym c.in_ok-check_segments.was ∙ creation_tested a.memory a.log (row a.words.now a.marks.now) c.check_sizes.ensures (program_seen a.program) c.in_ok-check_sizes.was c.check_segments.ensures

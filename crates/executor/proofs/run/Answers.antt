@@ -5,15 +5,10 @@ use Rattle.executor.specs.Entries.{run_answered, run_entry}
 use Rattle.executor.proofs.Accepted.{sizes_accepted, run_refused, run_tested, run_limit}
 use Rattle.executor.proofs.run.Goals as goal
 
-pub valid_row-requires : goal.valid_row-requires
-valid_row-requires c =
+pub invariant_of-valid_row : goal.invariant_of-valid_row
+invariant_of-valid_row c =
     let a = c.args in
-    (sizes_accepted a.memory a.log (row a.words.now a.marks.now) c.check_sizes.ensures c.in_ok-check_sizes.was).shape
-
-pub run-requires-clause-shape : goal.run-requires-clause-shape
-run-requires-clause-shape c =
-    let a = c.args in
-    (sizes_accepted a.memory a.log (row a.words.now a.marks.now) c.check_sizes.ensures c.in_ok-check_sizes.was).shape
+    record { shape = (sizes_accepted a.memory a.log (row a.words.now a.marks.now) c.check_sizes.ensures c.in_ok-check_sizes.was).shape }
 
 pub run-requires-clause-step_bound : goal.run-requires-clause-step_bound
 run-requires-clause-step_bound c =
