@@ -1,8 +1,9 @@
 -- What the entry's tests that passed, or did not, say.
 use Rattle.std.proofs.Common.{◌≡◌, refl, sym, ◌∙◌, subst, Bool, List, ℕ, ◌/◌, ◌≤◌, T, length, Result, Ok}
-use native.Mathlib.Nat.{add-sub_cancel_left}
+use Rattle.std.proofs.Math.Nat.{add-sub_cancel_left}
 use Rattle.rows.specs.Limits.{most_memory, most_log}
 use Rattle.loader.specs.Loading.{Program, Segment, Fits}
+use Rattle.loader.specs.Lent.{Loadable}
 use Rattle.checks.specs.Refusals.{is_copy_ratio}
 use Rattle.checks.specs.Tests.{checked_by}
 use Rattle.checks.specs.declared.refusal.Refusal.{Refusal}
@@ -12,7 +13,6 @@ use Rattle.checks.proofs.Tests.{all_pass}
 use Rattle.store.specs.Store.{Fit, memory_of}
 use Rattle.store.proofs.Lent.{lengths_fit}
 use Rattle.rounds.specs.Calls.{layout_of, call}
-use Rattle.rounds.specs.Handed.{Loadable}
 use Rattle.options.specs.declared.RaritySimulationOptions.{RaritySimulationOptions}
 use Rattle.rounds.proofs.Demand.{demand}
 use Rattle.search.specs.Entry.{call_tests, search_checked, Demanded}
@@ -24,7 +24,7 @@ pub record Allowed (o : RaritySimulationOptions) (log : ℕ) (p : Program) (word
   pub ratio : T (is_copy_ratio o.copy_init_ratio)
   pub memory : o.memory_size / 8 ≤ most_memory
   pub log_words : log ≤ most_log
-  pub loadable : Loadable (layout_of o log) p
+  pub loadable : Loadable (memory_of (layout_of o log)) p
 
 module _ (o : RaritySimulationOptions) (log : ℕ) (p : Program) (words marks : List ℕ) where
   -- what the tests say of a call

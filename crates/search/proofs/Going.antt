@@ -1,13 +1,17 @@
 -- The rounds of a search: what is still to be searched from here is what was to be searched from the beginning.
-use Rattle.std.proofs.Common.{◌≡◌, refl, sym, ◌∙◌, Bool, true, false, cond, List, ℕ, suc, ◌+◌, ◌-◌, ◌*◌, ◌^◌, ◌≤◌, ◌<◌, suc-mul, add-one, arith, Ok, Err}
-use native.Mathlib.Nat.{sub-zero}
-use Rattle.store.specs.Store.{rows_of}
+use Rattle.std.proofs.Common.{◌≡◌, refl, sym, ap, ◌∙◌, subst, Bool, true, false, cond, ℕ, suc, ◌+◌, ◌-◌, ◌*◌, ◌^◌, ◌≤◌, ◌<◌, suc-mul, add-one, arith, Ok, Err}
+use Rattle.std.proofs.Math.Nat.{sub-zero}
+use Rattle.store.specs.Store.{Sized}
+use Rattle.store.specs.declared.layout.Layout.{Layout}
+use Rattle.store.specs.declared.view.StoreMut.{StoreMut}
+use Rattle.store.specs.Lent.{rows_lent, SameStore}
 use Rattle.rounds.specs.Calls.{Call}
 use Rattle.rounds.specs.Demand.{All, nil}
-use Rattle.rounds.specs.Handed.{Holding, start_of}
+use Rattle.rounds.specs.Handed.{call_of, Holding, start_of}
+use Rattle.rounds.specs.declared.call.Call.{Call as LentCall}
 use Rattle.rounds.specs.declared.call.Ended.{Ended}
 use Rattle.rounds.specs.declared.call.Start.{Start as StartByValue}
-use Rattle.rounds.specs.Rounds.{Start, beginning, stored, tape_short, goes_on, ends, round_of, searched_after, search_from}
+use Rattle.rounds.specs.Rounds.{Start, After, beginning, stored, tape_short, goes_on, ends, round_of, searched_after, search_from}
 use Rattle.answers.specs.declared.finding.Finding.TheVariants.{Nothing, TapeShort}
 use Rattle.running.specs.Running.{LimitsAllow}
 use Rattle.round.specs.After.{round_with_filling, after_in}
@@ -37,51 +41,59 @@ filled_goes c s next = by (tape_short c s)
     by false e = e
 
 -- a search of n rounds before its round i, in a lent store
-pub record Going (c : Call) (n i : ℕ) (words marks : List ℕ) (start : StartByValue) : Type 0 where
-  pub holding : Holding c.store words marks start.kept
-  pub left : search_from (n - i) c (start_of c.store words marks start) ≡ search_from n c beginning
-  pub low : All (Low (i * c.options.step_size)) (start_of c.store words marks start).kept
+pub record Going (c : Call) (n i : ℕ) (s : StoreMut) (start : StartByValue) : Type 0 where
+  pub cut : s.layout ≡ c.store
+  pub holding : Holding s start.kept
+  pub left : search_from (n - i) c (start_of s start) ≡ search_from n c beginning
+  pub low : All (Low (i * c.options.step_size)) (start_of s start).kept
 
 -- before the first round
-pub begins : (c : Call) (n : ℕ) (words marks : List ℕ) → Holding c.store words marks 0 → Going c n 0 words marks (record { kept = 0; used = 0 })
-begins c n words marks holding =
+pub begins : (c : Call) (n : ℕ) (s : StoreMut) → s.layout ≡ c.store → Holding s 0 → Going c n 0 s (record { kept = 0; used = 0 })
+begins c n s cut holding =
     record {
+      cut = cut;
       holding = holding;
       left = rw (sub-zero n);
       low = nil;
     }
 
-module _ {c : Call} {n i : ℕ} {words marks : List ℕ} {start : StartByValue} (going : Going c n i words marks start) where
+module _ {c : Call} {n i : ℕ} {s : StoreMut} {start : StartByValue} (going : Going c n i s start) where
   module _ (before : i < n) where
-    pub going_limits : n < 2 ^ 32 → c.options.step_size < 2 ^ 32 → LimitsAllow c.options.step_size (start_of c.store words marks start).kept
+    pub going_limits : n < 2 ^ 32 → c.options.step_size < 2 ^ 32 → LimitsAllow c.options.step_size (start_of s start).kept
     going_limits few small = limits_allow n i c.options.step_size _ before few small going.low
 
-    round_left : searched_after (round_with_filling c (start_of c.store words marks start)) (λ next. search_from (n - (i + 1)) c next) ≡ search_from n c beginning
+    round_left : searched_after (round_with_filling c (start_of s start)) (λ next. search_from (n - (i + 1)) c next) ≡ search_from n c beginning
     round_left =
         let more : n - i ≡ suc (n - (i + 1)) = omega arith in
-        sym (search_round (n - (i + 1)) c (start_of c.store words marks start)) ∙ rw more at going.left
+        sym (search_round (n - (i + 1)) c (start_of s start)) ∙ rw more at going.left
 
-    pub follows_on : (words' marks' : List ℕ) (start' : StartByValue)
-        → after_in c.store words' marks' (Ok start') ≡ round_with_filling c (start_of c.store words marks start)
-        → Holding c.store words' marks' start'.kept → Going c n (i + 1) words' marks' start'
-    follows_on words' marks' start' e holding =
-        let next = start_of c.store words' marks' start' in
-        let more : (i + 1) * c.options.step_size ≡ i * c.options.step_size + c.options.step_size = rw (add-one i, suc-mul) in
-        record {
-          holding = holding;
-          left = rw (← e) at round_left;
-          low = rw more (round_low c _ next _ holding.fit.sized going.low (filled_goes c _ next (sym e)));
-        }
+    -- a round of the code's call, which is of the store as it is cut now
+    module _ (asked : LentCall) (is : call_of c.store asked ≡ c) (t : StoreMut) (same : SameStore s t) where
+      of_now : {after : After} → after ≡ round_with_filling (call_of s.layout asked) (start_of s start) → after ≡ round_with_filling c (start_of s start)
+      of_now e = e ∙ ap (λ (l : Layout). round_with_filling (call_of l asked) (start_of s start)) going.cut ∙ ap (λ (k : Call). round_with_filling k (start_of s start)) is
 
-    pub ends_with : (words' marks' : List ℕ) (e : Ended)
-        → after_in c.store words' marks' (Err e) ≡ round_with_filling c (start_of c.store words marks start)
-        → searched_as e (rows_of c.store words' marks') (search_from n c beginning)
-    ends_with words' marks' e h = rw (← round_left, ← h) (refl, refl)
+      pub follows_on : (start' : StartByValue) → after_in t (Ok start') ≡ round_with_filling (call_of s.layout asked) (start_of s start)
+          → Holding t start'.kept → Going c n (i + 1) t start'
+      follows_on start' r holding =
+          let e = of_now r in
+          let next = start_of t start' in
+          let more : (i + 1) * c.options.step_size ≡ i * c.options.step_size + c.options.step_size = rw (add-one i, suc-mul) in
+          let sized = subst Sized going.cut s.fit.sized in
+          record {
+            cut = same.same_layout ∙ going.cut;
+            holding = holding;
+            left = rw (← e) at round_left;
+            low = rw more (round_low c _ next _ sized going.low (filled_goes c _ next (sym e)));
+          }
+
+      pub ends_with : (e : Ended) → after_in t (Err e) ≡ round_with_filling (call_of s.layout asked) (start_of s start)
+          → searched_as e (rows_lent t) (search_from n c beginning)
+      ends_with e r = rw (← round_left, ← of_now r) (refl, refl)
 
   -- all rounds are done
-  pub done : n ≤ i → searched_as (record { finding = Nothing; used = start.used }) (rows_of c.store words marks) (search_from n c beginning)
+  pub done : n ≤ i → searched_as (record { finding = Nothing; used = start.used }) (rows_lent s) (search_from n c beginning)
   unfolding search_from
   done after =
       let none : n - i ≡ 0 = omega arith in
       let last = rw none at going.left in
-      rw (← last) (refl, going.holding.rest)
+      rw (← last) (refl, going.holding.rest ∙ ap (λ (l : Layout). stored l (start_of s start).kept) going.cut)

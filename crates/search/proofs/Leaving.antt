@@ -1,17 +1,19 @@
 -- What a call leaves: all as found if it is refused, the rows of its search if it is accepted.
-use Rattle.std.proofs.Common.{◌≡◌, sym, ap, ◌∙◌, List, ℕ, ◌-◌, arith, length, replicate, Ok, Err}
+use Rattle.std.proofs.Common.{◌≡◌, sym, ap, ◌∙◌, List, ℕ, ◌-◌, arith, replicate, Ok, Err}
 use Rattle.loader.specs.Loading.{Program}
 use Rattle.checks.specs.declared.refusal.Refusal.{Refusal}
-use Rattle.store.specs.Store.{Fit, rows_of, words_of, marks_of, zero_row}
+use Rattle.store.specs.Store.{Fit, words_of, marks_of, zero_row}
+use Rattle.store.specs.Lent.{rows_lent}
 use Rattle.store.specs.declared.layout.Layout.{Layout}
-use Rattle.store.proofs.Rows.{words_flat, marks_flat, fit_same}
+use Rattle.store.specs.declared.view.StoreMut.{StoreMut}
+use Rattle.store.proofs.Rows.{words_flat, marks_flat}
 use Rattle.rounds.specs.declared.call.Ended.{Ended}
 use Rattle.rounds.specs.Calls.{layout_of, call}
 use Rattle.rounds.specs.Handed.{Callable, Holding}
-use Rattle.rounds.specs.Rounds.{searched}
+use Rattle.rounds.specs.Rounds.{Searched, searched}
 use Rattle.options.specs.declared.RaritySimulationOptions.{RaritySimulationOptions}
 use Rattle.search.specs.Searching.{searched_as}
-use Rattle.search.specs.Entry.{search_checked, left, search_left, search_entry}
+use Rattle.search.specs.Entry.{search_checked, Left, left, left_by, search_left, search_entry}
 use Rattle.search.proofs.Accepted.{Allowed}
 
 pub left_refused : (o : RaritySimulationOptions) (log : ℕ) (p : Program) (tape words marks : List ℕ) (f : Refusal)
@@ -28,20 +30,19 @@ module _ {o : RaritySimulationOptions} {log : ℕ} {p : Program} {words marks : 
   pub callable : (tape : List ℕ) → Callable (call o s p tape)
   callable tape = record { ratio = call_is.ratio; loadable = rw is call_is.loadable }
 
-  module _ (words' marks' : List ℕ) (ew : length words' ≡ length words) (em : length marks' ≡ length marks) where
-    still_fit : Fit s words' marks'
-    still_fit = fit_same words' marks' lent_fit ew em
+  pub left_accepted : {l : Left} (tape : List ℕ) → l ≡ left_by (searched (call o s p tape)) → l ≡ search_entry o log p tape words marks
+  unfolding search_left
+  left_accepted tape e = rw (call_is.accepted, ← is) e
 
-    -- a store that was zeroed from row 0 on
-    pub zeroed : rows_of s words' marks' ≡ replicate (s.rows - 0) (zero_row s) → Holding s words' marks' 0
-    zeroed e = record { fit = still_fit; few = omega arith; rest = e }
+-- a store that holds the rows of a search is what the search leaves
+pub left_in : (s : StoreMut) (x : Searched) (e : Ended) → searched_as e (rows_lent s) x → left s.words.now s.marks.now (Ok e) ≡ left_by x
+left_in s x e h =
+    let n = s.layout in
+    let flat-words = sym (words_flat n.rows n.words n.marks s.words.now s.marks.now s.fit.all_words) ∙ ap words_of h.1 in
+    let flat-marks = sym (marks_flat n.rows n.words n.marks s.words.now s.marks.now s.fit.all_marks) ∙ ap marks_of h.1 in
+    rw (flat-words, flat-marks, h.0)
 
-    pub left_accepted : (tape : List ℕ) (e : Ended)
-        → searched_as e (rows_of s words' marks') (searched (call o s p tape))
-        → left words' marks' (Ok e) ≡ search_entry o log p tape words marks
-    unfolding search_left
-    left_accepted tape e x =
-        let f = still_fit in
-        let flat-words = sym (words_flat s.rows s.words s.marks words' marks' f.all_words) ∙ ap words_of x.1 in
-        let flat-marks = sym (marks_flat s.rows s.words s.marks words' marks' f.all_marks) ∙ ap marks_of x.1 in
-        rw (call_is.accepted, ← is, flat-words, flat-marks, x.0)
+-- a store that was zeroed from row 0 on
+pub zeroed : (s : StoreMut) (before : Layout) → s.layout ≡ before → rows_lent s ≡ replicate (before.rows - 0) (zero_row before) → Holding s 0
+zeroed s before same e =
+    record { few = omega arith; rest = e ∙ ap (λ (l : Layout). replicate (l.rows - 0) (zero_row l)) (sym same) }

@@ -1,14 +1,15 @@
 // The rarity search for hosts: a store is lent, and nothing is asked of the caller. What is refused changes nothing.
 #![tactic(auto)]
 
-ghost use Rattle.std.specs.Prelude.{◌≡◌};
+ghost use Rattle.std.specs.Prelude.{◌≡◌, Ok};
 ghost use Rattle.checks.specs.Tests.{checked_by};
-ghost use Rattle.loader.specs.Loading.{image};
-ghost use Rattle.store.specs.Store.{rows_of};
+ghost use Rattle.loader.specs.Lent.{program_seen};
+ghost use Rattle.store.specs.Store.{Fit};
+ghost use Rattle.store.specs.Lent.{rows_lent, SameStore};
 ghost use Rattle.rounds.specs.Handed.{call_of, Callable, Holding};
 ghost use Rattle.rounds.specs.Rounds.{searched};
 ghost use Rattle.search.specs.Searching.{ended_of, searched_as};
-ghost use Rattle.search.specs.Entry.{option_tests, call_tests, left, search_entry, Demanded};
+ghost use Rattle.search.specs.Entry.{option_tests, call_tests, left, left_by, search_entry, Demanded};
 
 pub mod answer;
 
@@ -17,11 +18,12 @@ use checks::refusal::{
     Refusal, are_lengths, is_amount_of_states, is_copy_ratio, is_log_size, is_memory_size, test,
 };
 use checks::segments::check_segments;
+use loader::Program;
 use options::RaritySimulationOptions;
 use round::round;
 use rounds::call::{Call, Ended, Start};
 use store::layout::Layout;
-use store::zero::zero_rows;
+use store::view::StoreMut;
 
 // Numbers 1 to 5.
 #[tactic(auto, unfolding(checks::specs::Tests::checked_by))]
@@ -51,35 +53,24 @@ fn check_call(
     log: u64,
     words: usize,
     marks: usize,
-    code_address: u64,
-    code: &[u8],
-    data_address: u64,
-    data: &[u8],
+    program: Program,
 ) -> Result<(), Refusal>
-    ensures { result ≡ checked_by (call_tests options log (image code_address code.now data_address «data».now) words marks) }
+    ensures { result ≡ checked_by (call_tests options log (program_seen program.entry) words marks) }
 {
     check_options(options, log, words, marks)?;
-    let memory = options.memory_size / 8;
-    check_segments(memory, code_address, code, data_address, data)
+    check_segments(options.memory_size / 8, program)
 }
 
 // The rounds, from a zeroed store on. Answers what another round would start from, or how one of them ended the search.
-fn search_rounds(
-    words: &mut [u64],
-    marks: &mut [u8],
-    call: Call,
-    code: &[u8],
-    data: &[u8],
-    tape: &[u64],
-) -> Result<Start, Ended>
-    requires holding { Holding call.store words.old marks.old 0 }
-    requires callable { Callable (call_of call code.now «data».now tape.now) }
-    ensures { searched_as (ended_of result) (rows_of call.store words.new marks.new)
-        (searched (call_of call code.now «data».now tape.now)) }
+fn search_rounds(store: &mut StoreMut, call: Call) -> Result<Start, Ended>
+    requires holding { Holding store.old 0 }
+    requires callable { Callable (call_of store.old.layout call) }
+    ensures searched { searched_as (ended_of result) (rows_lent store.new) (searched (call_of store.old.layout call.entry)) }
+    ensures same_store { SameStore store.old store.new }
 {
     let mut start = Start { kept: 0, used: 0 };
     for _round in 0..call.options.iterations {
-        start = round(words, marks, call, code, data, tape, start)?;
+        start = round(store, call, start)?;
     }
     Ok(start)
 }
@@ -97,6 +88,31 @@ fn ended_of(rounds: Result<Start, Ended>) -> Ended
     }
 }
 
+// The search that an accepted call asks for, whatever the store held.
+fn search_store(store: &mut StoreMut, call: Call) -> Ended
+    requires callable { Callable (call_of store.old.layout call) }
+    ensures left_after { left store.new.words.now store.new.marks.now (Ok result)
+        ≡ left_by (searched (call_of store.old.layout call.entry)) }
+    ensures same_store { SameStore store.old store.new }
+{
+    store.zero_rows(0);
+    ended_of(search_rounds(store, call))
+}
+
+// The same, of a store that is lent as two slices. A function of its own, so that one call says what both hold at the end.
+fn search_lent(words: &mut [u64], marks: &mut [u8], layout: Layout, call: Call) -> Ended
+    requires fit { Fit layout words.old marks.old }
+    requires callable { Callable (call_of layout call) }
+    ensures { left words.new marks.new (Ok result) ≡ left_by (searched (call_of layout call.entry)) }
+{
+    let mut store = StoreMut {
+        words,
+        marks,
+        layout,
+    };
+    search_store(&mut store, call)
+}
+
 // Searches a program for bugs, round after round (the Rust's search_for_bugs).
 // The store has exactly one row a state, each of 37 + W + `log` words and 32 + W marks, W being the memory bytes over 8.
 pub fn search_for_bugs(
@@ -104,39 +120,23 @@ pub fn search_for_bugs(
     marks: &mut [u8],
     options: RaritySimulationOptions,
     log: u64,
-    code_address: u64,
-    code: &[u8],
-    data_address: u64,
-    data: &[u8],
+    program: Program,
     tape: &[u64],
 ) -> Result<Ended, Refusal>
     ensures result_after { left words.new marks.new result
-        ≡ search_entry options log (image code_address code.now data_address «data».now)
-        tape.now words.old marks.old }
-    ensures demanded { Demanded options log (image code_address code.now data_address «data».now)
-        tape.now words.old marks.old }
+        ≡ search_entry options log (program_seen program.entry) tape.now words.old marks.old }
+    ensures demanded { Demanded options log (program_seen program.entry) tape.now words.old marks.old }
 {
-    check_call(
-        options,
-        log,
-        words.len(),
-        marks.len(),
-        code_address,
-        code,
-        data_address,
-        data,
-    )?;
-    let store = Layout::new(
+    check_call(options, log, words.len(), marks.len(), program)?;
+    let layout = Layout::new(
         options.amount_of_states as usize,
         options.memory_size / 8,
         log,
     );
-    zero_rows(words, marks, store, 0);
     let call = Call {
         options,
-        store,
-        code_address,
-        data_address,
+        program,
+        tape,
     };
-    Ok(ended_of(search_rounds(words, marks, call, code, data, tape)))
+    Ok(search_lent(words, marks, layout, call))
 }

@@ -1,6 +1,6 @@
 use Rattle.std.proofs.Common.{sym, ◌∙◌, ◌/◌}
 use Rattle.std.proofs.lemmas.Result.{err_from_is_err_and}
-use Rattle.loader.specs.Loading.{image}
+use Rattle.loader.specs.Lent.{program_seen}
 use Rattle.checks.specs.Segments.{segment_tests}
 use Rattle.checks.proofs.Tests.{then_others, still_refused}
 use Rattle.search.specs.Entry.{option_tests}
@@ -9,14 +9,14 @@ use Rattle.search.proofs.check_call.Goals as goal
 pub returns-in_err-check_options : goal.returns-in_err-check_options
 returns-in_err-check_options c =
     let a = c.args in
-    let p = image a.code_address a.code.now a.data_address a.data.now in
     let tests = option_tests a.options a.log a.words a.marks in
+    let others = segment_tests (a.options.memory_size / 8) (program_seen a.program) in
     let e = err_from_is_err_and c.from_residual.result c.from_residual.ensures.1 in
-    rw (e.1, e.2) (sym (still_refused tests c.check_options.ensures (segment_tests (a.options.memory_size / 8) p) c.in_err-check_options.was))
+    rw (e.1, e.2) (sym (still_refused tests c.check_options.ensures others c.in_err-check_options.was))
 
 pub returns : goal.returns
 returns c =
     let a = c.args in
-    let p = image a.code_address a.code.now a.data_address a.data.now in
     let tests = option_tests a.options a.log a.words a.marks in
-    c.check_segments.ensures ∙ sym (then_others tests c.check_options.ensures (segment_tests (a.options.memory_size / 8) p) c.in_ok-check_options.was)
+    let others = segment_tests (a.options.memory_size / 8) (program_seen a.program) in
+    c.check_segments.ensures ∙ sym (then_others tests c.check_options.ensures others c.in_ok-check_options.was)

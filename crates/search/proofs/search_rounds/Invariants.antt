@@ -1,6 +1,11 @@
 use Rattle.rounds.specs.Handed.{call_of}
+use Rattle.store.specs.Lent.{SameStore}
 use Rattle.search.proofs.Going.{Going}
 use Rattle.search.proofs.search_rounds.Given as goal
 
 abbrev pub invariant-loop-round : goal.invariant-loop-round
-invariant-loop-round l = Going (call_of l.call l.code l.data l.tape) l.call.options.iterations l._round l.words l.marks l.start
+invariant-loop-round l =
+    record {
+      same_store : SameStore l.initial.store l.store;
+      going : Going (call_of l.initial.store.layout l.call) l.call.options.iterations l._round l.store l.start;
+    }
