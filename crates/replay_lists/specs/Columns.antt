@@ -1,5 +1,6 @@
 -- The numbers of a line by their columns.
-use Rattle.std.specs.Prelude.{ℕ, zero, suc, ◌+◌, ◌*◌, ◌/◌, ◌%◌, ◌^◌, cond, List, [], ◌∷◌, ◌++◌, nat_le, slice_index, Option, Some, None}
+use Rattle.std.specs.Prelude.{ℕ, zero, suc, ◌+◌, ◌/◌, ◌%◌, cond, List, [], ◌∷◌, ◌++◌, nat_le, slice_index, Option, Some, None}
+use Rattle.values.specs.Values.{byte_of}
 
 -- the number in a column; 0 past the end
 abbrev pub number_at : List ℕ → ℕ → ℕ
@@ -16,10 +17,6 @@ words_for bytes = (bytes + 7) / 8
 -- where the words of code and data end that begin at a column
 abbrev pub words_end : ℕ → ℕ → ℕ → ℕ
 words_end start code_bytes data_bytes = start + words_for code_bytes + words_for data_bytes
-
--- byte k of a word, counted from the lowest
-abbrev pub byte_of : ℕ → ℕ → ℕ
-byte_of word k = word / 2 ^ (8 * k) % 256
 
 -- byte i of the words in the columns from this one on
 abbrev pub byte_at : List ℕ → ℕ → ℕ → ℕ

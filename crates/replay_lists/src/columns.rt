@@ -1,6 +1,8 @@
 // The numbers of a line by their columns.
 ghost use Rattle.std.specs.Prelude.{◌≡◌, ◌<◌, ◌≤◌, length, IfSome};
-ghost use Rattle.replay_lists.specs.Columns.{number_at, length_at, words_for, byte_of, bytes_at};
+ghost use Rattle.replay_lists.specs.Columns.{number_at, length_at, words_for, bytes_at};
+
+pub use values::byte_of;
 
 // The most bytes of code, and of data, that a line has.
 pub const MOST_BYTES: usize = 512;
@@ -32,14 +34,6 @@ pub fn words_of(bytes: usize) -> usize
     ensures value { result ≡ words_for bytes }
 {
     bytes.div_ceil(WORD_BYTES)
-}
-
-// A byte of a word, counted from the lowest.
-pub fn byte_of(word: u64, place: u64) -> u8
-    requires { place < 8 }
-    ensures { result ≡ byte_of word place }
-{
-    ((word >> (8 * place)) % 256) as u8
 }
 
 // The bytes of the words in the columns from this one on.
