@@ -1,4 +1,4 @@
--- Two rows that change places, in the rows and in the two lists of where each row is; and the loop of them.
+-- Two rows that change places, in the rows and in the list of which row is at each place; and the loop of them.
 use Rattle.std.proofs.Common.{Bool, true, false, List, [], ◌≡◌, refl, sym, ap, ◌∙◌, subst, ℕ, ◌+◌, ◌≤◌, ◌<◌, lt_of_lt_of_le, not-suc-le-zero, arith, below_more, eqb-true, ltb-true, ltb-false, eqb, ltb, length, get_or, take, set, length-set, get_or-set_same, get_or-set_other, get_or-take, ext_get_or, length-take-le}
 use Rattle.std.proofs.lemmas.Bool.{eqb-false}
 use Rattle.std.proofs.Math.ListN.{length-map}
@@ -39,35 +39,6 @@ module _ {A : Type 0} (l : List A) (a b : ℕ) (x y d : A) where
   at_other : (k : ℕ) → (k ≡ b → ⊥) → (k ≡ a → ⊥) → get_or both k d ≡ get_or l k d
   at_other k n m = get_or-set_other (set l a x) b k y d n ∙ get_or-set_other l a k x d m
 
--- every number at its own place
-pub own_none : (places : List ℕ) → Own 0 places
-own_none places = record { room = omega arith; own = λ k h. absurd (not-suc-le-zero h) }
-
-pub own_turn : (places : List ℕ) (place : ℕ) → place < length places → Own place places → Own (place + 1) (set places place place)
-own_turn places place h o =
-    record {
-      room = simp length-set (omega arith);
-      own =
-          below_more (λ (k : ℕ). get_or (set places place place) k 0 ≡ k) place
-          (λ k l. get_or-set_other places place k place 0 (less_not l) ∙ o.own k l)
-          (get_or-set_same places place place 0 h);
-    }
-
-pub own_fewer : {n m : ℕ} {places : List ℕ} → Own m places → n ≤ m → Own n places
-own_fewer o h = record { room = omega (arith, o.room); own = λ k l. o.own k (lt_of_lt_of_le l h) }
-
--- then each list is the other's inverse
-pub inverse_own : {n : ℕ} {place_of row_at : List ℕ} → Own n place_of → Own n row_at → Inverse n place_of row_at
-inverse_own {n} {place_of} {row_at} a b =
-    record {
-      place_of_all = a.room;
-      row_at_all = b.room;
-      row_at_in = λ place h. omega (arith, b.own place h);
-      forth = λ place h. ap (λ (k : ℕ). get_or place_of k 0) (b.own place h) ∙ a.own place h;
-      place_of_in = λ r h. omega (arith, a.own r h);
-      back = λ r h. ap (λ (k : ℕ). get_or row_at k 0) (a.own r h) ∙ b.own r h;
-    }
-
 -- row `incoming` comes to `place`, and the row that is there goes where `incoming` was
 module _ {n : ℕ} {place_of row_at : List ℕ} (M : Inverse n place_of row_at) (place incoming : ℕ) (h_place : place < n) (h_incoming : incoming < n) where
   abbrev from : ℕ
@@ -76,26 +47,17 @@ module _ {n : ℕ} {place_of row_at : List ℕ} (M : Inverse n place_of row_at) 
   abbrev displaced : ℕ
   displaced = get_or row_at place 0
 
-  abbrev place_of' : List ℕ
-  place_of' = set (set place_of displaced from) incoming place
-
   abbrev row_at' : List ℕ
   row_at' = set (set row_at from displaced) place incoming
 
   h_from : from < n
   h_from = M.place_of_in incoming h_incoming
 
-  h_displaced : displaced < n
-  h_displaced = M.row_at_in place h_place
-
   -- the two may be one row
   one : from ≡ place → displaced ≡ incoming
   one e = ap (λ (k : ℕ). get_or row_at k 0) (sym e) ∙ M.back incoming h_incoming
 
-  one' : displaced ≡ incoming → from ≡ place
-  one' e = ap (λ (k : ℕ). get_or place_of k 0) (sym e) ∙ M.forth place h_place
-
-  -- what the two lists have now
+  -- what the list has now
   row_at_first : (q : ℕ) → q ≡ place → get_or row_at' q 0 ≡ incoming
   row_at_first q e = at_first row_at from place displaced incoming 0 q e (lt_of_lt_of_le h_place M.row_at_all)
 
@@ -105,55 +67,7 @@ module _ {n : ℕ} {place_of row_at : List ℕ} (M : Inverse n place_of row_at) 
   row_at_other : (q : ℕ) → (q ≡ place → ⊥) → (q ≡ from → ⊥) → get_or row_at' q 0 ≡ get_or row_at q 0
   row_at_other q m m' = at_other row_at from place displaced incoming 0 q m m'
 
-  place_of_first : (r : ℕ) → r ≡ incoming → get_or place_of' r 0 ≡ place
-  place_of_first r e = at_first place_of displaced incoming from place 0 r e (lt_of_lt_of_le h_incoming M.place_of_all)
-
-  place_of_second : (r : ℕ) → (r ≡ incoming → ⊥) → r ≡ displaced → get_or place_of' r 0 ≡ from
-  place_of_second r m e = at_second place_of displaced incoming from place 0 r m e (lt_of_lt_of_le h_displaced M.place_of_all)
-
-  place_of_other : (r : ℕ) → (r ≡ incoming → ⊥) → (r ≡ displaced → ⊥) → get_or place_of' r 0 ≡ get_or place_of r 0
-  place_of_other r m m' = at_other place_of displaced incoming from place 0 r m m'
-
-  row_at_in' : (q : ℕ) → q < n → Where place from q → get_or row_at' q 0 < n
-  row_at_in' q h (first e) = subst (λ (k : ℕ). k < n) (sym (row_at_first q e)) h_incoming
-  row_at_in' q h (second m e) = subst (λ (k : ℕ). k < n) (sym (row_at_second q m e)) h_displaced
-  row_at_in' q h (other m m') = subst (λ (k : ℕ). k < n) (sym (row_at_other q m m')) (M.row_at_in q h)
-
-  place_of_in' : (r : ℕ) → r < n → Where incoming displaced r → get_or place_of' r 0 < n
-  place_of_in' r h (first e) = subst (λ (k : ℕ). k < n) (sym (place_of_first r e)) h_place
-  place_of_in' r h (second m e) = subst (λ (k : ℕ). k < n) (sym (place_of_second r m e)) h_from
-  place_of_in' r h (other m m') = subst (λ (k : ℕ). k < n) (sym (place_of_other r m m')) (M.place_of_in r h)
-
-  forth' : (q : ℕ) → q < n → Where place from q → get_or place_of' (get_or row_at' q 0) 0 ≡ q
-  forth' q h (first e) = ap (λ (k : ℕ). get_or place_of' k 0) (row_at_first q e) ∙ place_of_first incoming refl ∙ sym e
-  forth' q h (second m e) = ap (λ (k : ℕ). get_or place_of' k 0) (row_at_second q m e) ∙ place_of_second displaced (λ z. m (e ∙ one' z)) refl ∙ sym e
-  forth' q h (other m m') =
-      ap (λ (k : ℕ). get_or place_of' k 0) (row_at_other q m m')
-      ∙ place_of_other (get_or row_at q 0) (λ z. m' (sym (M.forth q h) ∙ ap (λ (k : ℕ). get_or place_of k 0) z))
-      (λ z. m (sym (M.forth q h) ∙ ap (λ (k : ℕ). get_or place_of k 0) z ∙ M.forth place h_place))
-      ∙ M.forth q h
-
-  back' : (r : ℕ) → r < n → Where incoming displaced r → get_or row_at' (get_or place_of' r 0) 0 ≡ r
-  back' r h (first e) = ap (λ (k : ℕ). get_or row_at' k 0) (place_of_first r e) ∙ row_at_first place refl ∙ sym e
-  back' r h (second m e) = ap (λ (k : ℕ). get_or row_at' k 0) (place_of_second r m e) ∙ row_at_second from (λ z. m (e ∙ one z)) refl ∙ sym e
-  back' r h (other m m') =
-      ap (λ (k : ℕ). get_or row_at' k 0) (place_of_other r m m')
-      ∙ row_at_other (get_or place_of r 0) (λ z. m' (sym (M.back r h) ∙ ap (λ (k : ℕ). get_or row_at k 0) z))
-      (λ z. m (sym (M.back r h) ∙ ap (λ (k : ℕ). get_or row_at k 0) z ∙ M.back incoming h_incoming))
-      ∙ M.back r h
-
-  pub exchanged : Inverse n place_of' row_at'
-  exchanged =
-      record {
-        place_of_all = omega (arith, M.place_of_all, length-set (set place_of displaced from) incoming place, length-set place_of displaced from);
-        row_at_all = omega (arith, M.row_at_all, length-set (set row_at from displaced) place incoming, length-set row_at from displaced);
-        row_at_in = λ q h. row_at_in' q h (find place from q);
-        forth = λ q h. forth' q h (find place from q);
-        place_of_in = λ r h. place_of_in' r h (find incoming displaced r);
-        back = λ r h. back' r h (find incoming displaced r);
-      }
-
-  -- and so are the rows that they are of
+  -- and the rows, of which these are the numbers
   module _ (start rows : List Row) (all : length rows ≡ n)
       (moved : (q : ℕ) → q < n → nth_row rows q ≡ nth_row start (get_or row_at q 0)) where
     moved' : (q : ℕ) → q < n → Where from place q → nth_row (rows_swapped place from rows) q ≡ nth_row start (get_or row_at' q 0)
