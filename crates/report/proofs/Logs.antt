@@ -1,13 +1,11 @@
 -- The log of a row in the words of a store.
-use Rattle.std.proofs.Common.{◌≡◌, sym, ap, ◌∙◌, List, [], ℕ, ◌+◌, ◌*◌, ◌-◌, ◌≤◌, ◌<◌, arith, length, take, drop, get_or, length-drop}
-use Rattle.std.proofs.Common.{take-add, drop_at, drop-drop, get_or-take, get_or-drop, length-take-le, min}
-use lib.ListN.{get_or-eq_default}
+use Rattle.std.proofs.Common.{◌≡◌, sym, ap, ◌∙◌, List, [], ℕ, ◌+◌, ◌*◌, ◌-◌, ◌≤◌, ◌<◌, arith, length, take, drop, get_or, length-drop, take-add, drop_at, drop-drop, get_or-take, get_or-drop, length-take-le, min, length-take}
+use Rattle.std.proofs.Math.ListN.{get_or-eq_default}
 use Rattle.rows.specs.Rows.{Row, row, header}
 use Rattle.store.specs.Store.{rows_of}
 use Rattle.store.specs.declared.layout.Layout.{Layout}
 use Rattle.store.proofs.Rows.{row_end, row_get, part_length, length_rows}
 use Rattle.report.specs.Reports.{log_of}
-use Rattle.std.proofs.Common.{length-take}
 use Rattle.std.proofs.lemmas.List.{take_min}
 use Rattle.report.specs.Printing.{Lent, Told, log_at}
 

@@ -1,6 +1,6 @@
 -- The front of a local array of zeros.
 use Rattle.std.proofs.Common.{◌≡◌, ap, ◌∙◌, List, ℕ, ◌-◌, ◌≤◌, length, take, drop, replicate}
-use lib.ListN.{length-replicate}
+use Rattle.std.proofs.Math.ListN.{length-replicate}
 use Rattle.laws.proofs.Fronts.{front_alike}
 
 abbrev pub zeros : ℕ → List ℕ

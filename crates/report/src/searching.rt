@@ -5,6 +5,7 @@ ghost use Rattle.sheet.specs.Sheets.{parsed, bench_limits, image_of, tape_of};
 ghost use Rattle.sheet.specs.Parts.{PartsWithin};
 
 use checks::refusal::Refusal;
+use loader::Program;
 use rounds::call::Ended;
 use search::search_for_bugs;
 use sheet::limits::MOST_SHEET;
@@ -26,20 +27,15 @@ fn search_with(
     ensures { left words.new marks.new result
         ≡ search_entry asked.options asked.log (image_of sheet.now asked) tape.now words.old marks.old }
 {
-    let options = asked.options;
     let code = asked.code;
     let data = asked.data;
-    search_for_bugs(
-        words,
-        marks,
-        options,
-        asked.log,
+    let program = Program::new(
         code.address,
         &sheet[code.offset..code.offset + code.length],
         data.address,
         &sheet[data.offset..data.offset + data.length],
-        tape,
-    )
+    );
+    search_for_bugs(words, marks, asked.options, asked.log, program, tape)
 }
 
 pub(crate) fn search_sheet(
