@@ -5,16 +5,12 @@ use Rattle.rows.specs.Rows.{Row, Shape, limit_of}
 use Rattle.loader.specs.Loading.{Program, new_executor}
 use Rattle.loader.proofs.Kept.{new_words, new_marks, new_limit}
 use Rattle.loader.proofs.Lengths.{same_shape}
-use Rattle.machine.specs.Runs.{Finished, finished_as}
-use Rattle.machine.specs.declared.run.Ran.{Ran}
 use Rattle.checks.specs.Tests.{checked_by}
 use Rattle.checks.specs.declared.refusal.Refusal.{Refusal}
 use Rattle.executor.specs.Entries.{size_tests, creation_checked, created_row}
 use Rattle.executor.proofs.Accepted.{Sizes, sizes_accepted, creation_refused}
-use Rattle.writing.specs.Writing.{Wrote}
-use Rattle.writing.proofs.Writing.{wrote_front}
 use Rattle.runner.specs.Serving.{served_of}
-use Rattle.runner.specs.Entry.{left, left_by, served_entry, run_program}
+use Rattle.runner.specs.Entry.{Left, left, left_by, served_entry, run_program}
 
 -- new is what c, the verdict on the sizes and the program, made of the lent row r
 module _ (memory log : ℕ) (p : Program) (r : Row) {c : Result (Unit {0}) Refusal} (e : c ≡ creation_checked memory log p r)
@@ -46,15 +42,9 @@ module _ (memory log : ℕ) (p : Program) (r : Row) {c : Result (Unit {0}) Refus
     unfolding run_program
     entered = rw (n, e)
 
-    pub served : c ≡ Ok tt → {words marks out : List ℕ} {ran : Ran} {size : ℕ} → let x = served_of step input (length output) 0 new in
-        finished_as words marks ran ≡ x.finished → Wrote output 0 x.output size out
-        → left words marks out (record { answer = Ok ran; written = size }) ≡ run_program memory log step p input r output
+    pub served : c ≡ Ok tt → {x : Left} → x ≡ left_by (served_of step input (length output) 0 new) output → x ≡ run_program memory log step p input r output
     unfolding served_entry
-    served h {words} {marks} {out} {ran} {size} f w =
-        let front = wrote_front w in
-        let text = (served_of step input (length output) 0 new).output in
-        rw (front.0, front.1.0) (ap (λ (y : Finished). left_by (record { finished = y; output = text }) output) f)
-        ∙ (rw h at entered)
+    served h e = e ∙ (rw h at entered)
 
     pub refused : {f : Refusal} → c ≡ Err f
         → left new.words new.marks output (record { answer = Err f; written = 0 }) ≡ run_program memory log step p input r output

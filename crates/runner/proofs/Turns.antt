@@ -1,5 +1,5 @@
 -- The turns of a run whose write calls are put out: what each leaves is what the run still has to do.
-use Rattle.std.proofs.Common.{List, [], ◌++◌, append-nil, append_assoc, ◌≡◌, sym, ap, ◌∙◌, subst, ℕ, ◌+◌, ◌-◌, ◌≤◌, ◌<◌, arith, le-leb, length}
+use Rattle.std.proofs.Common.{List, [], ◌++◌, append-nil, append_assoc, ◌≡◌, sym, ap, ◌∙◌, subst, ℕ, ◌+◌, ◌-◌, ◌≤◌, ◌<◌, arith, le-leb, length, length-append}
 use native.Mathlib.Nat.{sub-zero}
 use borrow.Author.Tests.{lt-leb}
 use Rattle.answers.specs.declared.error.ExecutorError.TheVariants.{OutputFull}
@@ -13,12 +13,13 @@ use Rattle.calls.specs.declared.step.Step.{Step}
 use Rattle.calls.specs.declared.step.Step.TheVariants as step
 use Rattle.calls.proofs.Kept.{completed_depth, completed_limit}
 use Rattle.machine.specs.Runs.{Finished, stops, answer_of}
-use Rattle.machine.specs.declared.run.Ran.{Ran}
 use Rattle.machine.specs.Pauses.{Halted, paused_of}
 use Rattle.machine.specs.Writes.{bytes_from}
 use Rattle.writing.specs.Writing.{Wrote}
-use Rattle.writing.proofs.Writing.{wrote_more, wrote_none}
+use Rattle.writing.proofs.Writing.{wrote_more, wrote_none, wrote_front}
 use Rattle.runner.specs.Serving.{Served, silent, preceded, served_by, served_of}
+use Rattle.runner.specs.Entry.{Left, printed, left, left_by}
+use Rattle.runner.specs.declared.Printed.{Printed}
 use Rattle.runner.proofs.Printing.{bytes_length}
 use Rattle.runner.proofs.Halts.{after_pause, Fewer, Halt, halting}
 
@@ -34,11 +35,16 @@ pub record Ends (whole : Served) (out : List ℕ) (at : ℕ) (out' : List ℕ) (
   pub wrote : Wrote out 0 whole.output at out'
 
 -- what is answered of it
-pub answered : {whole : Served} {out out' : List ℕ} {at : ℕ} {p : Progress} {pc used : ℕ} {r : Row} → Ends whole out at out' (stops p pc used r)
-    → {ran : Ran} {n : ℕ} → ran ≡ answer_of p pc used → n ≡ at
-    → (◌≡◌ {A = Finished} (record { row = r; ran = ran }) whole.finished) × Wrote out 0 whole.output n out'
-answered {whole} {out} {out'} {r = r} e f g =
-    (ap (λ (x : Ran). record { row = r; ran = x }) f ∙ e.ended, subst (λ (k : ℕ). Wrote out 0 whole.output k out') (sym g) e.wrote)
+pub answered : {whole : Served} {out out' : List ℕ} {at : ℕ} {p : Progress} {pc used : ℕ} {r : Row} {x : Printed} → Ends whole out at out' (stops p pc used r)
+    → x ≡ printed (answer_of p pc used) at → left r.words r.marks out' x ≡ left_by whole out
+answered {whole} {out} e f =
+    let front = wrote_front e.wrote in
+    rw (f, front.0, front.1.0) (ap (λ (y : Finished). left_by (record { finished = y; output = whole.output }) out) e.ended)
+
+-- an output with its text at the front has room for it
+pub within : (whole : Served) (out : List ℕ) {words marks out' : List ℕ} {x : Printed} → left words marks out' x ≡ left_by whole out → length out' ≡ length out → x.written ≤ length out
+within whole out e l =
+    omega (arith, l, ap (λ (y : Left). length y.output) e ∙ length-append whole.output _, ap (λ (y : Left). y.printed.written) e)
 
 pub begins : (step : ℕ) (input out : List ℕ) (r : Row) → Serves (served_of step input (length out) 0 r) input out step 0 0 out r
 begins step input out r = record { text = []; wrote = wrote_none out 0 (omega arith); rest = simp sub-zero }

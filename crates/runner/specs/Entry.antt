@@ -4,6 +4,7 @@ use Rattle.answers.specs.Numbers.{error_number}
 use Rattle.answers.specs.declared.error.ExecutorError.TheVariants.{OutputFull}
 use Rattle.rows.specs.Rows.{Row, row}
 use Rattle.loader.specs.Loading.{Program}
+use Rattle.machine.specs.declared.run.Ran.{Ran}
 use Rattle.checks.specs.declared.refusal.Refusal.{Refusal}
 use Rattle.executor.specs.Entries.{creation_checked, created_row, Answered, run_answered, run_answer}
 use Rattle.writing.specs.Written.{written}
@@ -19,13 +20,17 @@ pub record Left : Type 0 where
 abbrev pub left : List ℕ → List ℕ → List ℕ → Printed → Left
 left words marks output printed = record { row = row words marks; output = output; printed = printed }
 
+-- what is answered of a run that was made
+abbrev pub printed : Ran → ℕ → Printed
+printed ran written = record { answer = Ok ran; written = written }
+
 -- the output begins with what was written, and its other bytes are untouched
 abbrev pub left_by : Served → List ℕ → Left
 left_by x output =
     record {
       row = x.finished.row;
       output = written x.output output;
-      printed = record { answer = Ok x.finished.ran; written = length x.output };
+      printed = printed x.finished.ran (length x.output);
     }
 
 unfoldable pub served_entry : Result (Unit {0}) Refusal → ℕ → List ℕ → Row → List ℕ → Left
