@@ -1,11 +1,6 @@
 -- What a draw tells.
-use mathlib.Core.Bool.{Bool, true, false, cond}
+use Rattle.std.proofs.Common.{Bool, true, false, cond, List, ◌≡◌, refl, sym, ◌∙◌, ℕ, ◌<◌, length, ltb-true}
 use Rattle.std.specs.Prelude.{Result, Ok, Err}
-use mathlib.Core.List.{List}
-use mathlib.Core.Path.{◌≡◌, refl, sym, ◌∙◌}
-use Prim.Native.Nat.{ℕ, ◌<◌}
-use lib.ListN.{length}
-use borrow.Author.Tests.{ltb-true}
 use Rattle.answers.specs.declared.error.ExecutorError.{ExecutorError}
 use Rattle.rows.specs.Rows.{Row, log_room, log_count}
 use Rattle.reading.specs.Reading.{drawn}

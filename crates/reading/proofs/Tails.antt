@@ -1,12 +1,8 @@
 -- A word with other low bytes.
-use mathlib.Core.Path.{◌≡◌, sym, ap, ◌∙◌}
-use Prim.Native.Nat.{ℕ, ◌+◌, ◌-◌, ◌*◌, ◌/◌, ◌%◌, ◌^◌, ◌<◌}
-use native.Mathlib.Omega.{arith}
-use native.Mathlib.Nat.{mod-lt}
+use Rattle.std.proofs.Common.{◌≡◌, sym, ap, ◌∙◌, ℕ, ◌+◌, ◌-◌, ◌*◌, ◌/◌, ◌%◌, ◌^◌, ◌<◌, arith, mod-lt, pow-add, pow_pos, shr_lt}
 use Rattle.std.proofs.Math.Nat.{mod-eq_of_lt}
 use Rattle.std.proofs.Math.Pow.{pow-lt}
-use lib.Pow.{pow-add, pow_pos, shr_lt}
-use lib.Arith.{digits_lt}
+use Rattle.std.proofs.Math.Arith.{digits_lt}
 
 -- it is a word
 pub tail_fits : (c x k unit : ℕ) → c < 2 ^ 64 → k < 8 → unit ≡ 2 ^ (8 * k) → c / unit * unit + x % unit < 2 ^ 64
