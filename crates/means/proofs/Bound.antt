@@ -1,7 +1,6 @@
 -- The bound of a score for any list of counters, however they come about: a score is finite, at least 1, and within one part in 2^32 of the exact mean.
-use Rattle.std.proofs.Common.{sym, subst, List, ℕ, ◌+◌, ◌*◌, ◌≤◌, ◌<◌, le_trans, le_of_eq, one-mul, mul-le-mul, arith, length, lit<, lit≤}
-use lib.Ieee.{Float}
-use lib.Ieee.Positive.{num, den, den_pos, first_pos}
+use Rattle.std.proofs.Common.{sym, subst, List, ℕ, ◌+◌, ◌*◌, ◌≤◌, ◌<◌, le_trans, le_of_eq, one-mul, mul-le-mul, arith, length, lit<, lit≤, Float}
+use Rattle.std.specs.Float.Ieee.Positive.{num, den, den_pos, first_pos}
 use Rattle.laws.proofs.Floats.{plain_positive}
 use Rattle.means.specs.declared.MeanType.{MeanType}
 use Rattle.means.specs.declared.MeanType.TheVariants.{Arithmetic, Harmonic}

@@ -1,6 +1,7 @@
 -- The scores that are computed from the counters 1 and 2 of case P9.
 use Rattle.std.proofs.Common.{◌≡◌, refl, List, [], ◌∷◌, ℕ}
-use lib.Ieee.{binary64, add, div, of_int, to_bits}
+use Rattle.std.specs.Float.{binary64}
+use Rattle.std.specs.Float.Ieee.{add, div, of_int, to_bits}
 use Rattle.means.specs.declared.MeanType.TheVariants.{Arithmetic, Harmonic}
 use Rattle.means.specs.Means.{reciprocals, sum, mean}
 

@@ -1,6 +1,5 @@
 -- Fractions of whole numbers, and the order of two of them up to a factor. All is cross-multiplied: nothing is divided and nothing subtracted.
-use Rattle.std.proofs.Common.{◌≡◌, sym, ℕ, ◌+◌, ◌*◌, ◌≤◌, ◌<◌, le_trans, le_of_eq, mul_comm, mul_assoc, mul_left_comm, add-mul, mul-le-mul_left}
-use Rattle.std.proofs.Common.{mul-le-mul_right, le_of_mul-le-mul_right, add-le-add}
+use Rattle.std.proofs.Common.{◌≡◌, sym, ℕ, ◌+◌, ◌*◌, ◌≤◌, ◌<◌, le_trans, le_of_eq, mul_comm, mul_assoc, mul_left_comm, add-mul, mul-le-mul_left, mul-le-mul_right, le_of_mul-le-mul_right, add-le-add}
 use Rattle.means.specs.Means.{Fraction}
 
 abbrev pub fraction : ℕ → ℕ → Fraction

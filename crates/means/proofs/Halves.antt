@@ -1,10 +1,9 @@
 -- A fraction's nearest whole number is at most a half away from it. Nothing here is about floats.
-use Rattle.std.proofs.Common.{◌≡◌, ℕ, suc, ◌+◌, ◌*◌, ◌/◌, ◌%◌, ◌≤◌, ◌<◌, add-mul, suc-mul, mul-le-mul_right, mod-lt, div-add-mod', arith, not, T}
-use Rattle.std.proofs.Common.{leb→le, eqb→eq}
+use Rattle.std.proofs.Common.{◌≡◌, ℕ, suc, ◌+◌, ◌*◌, ◌/◌, ◌%◌, ◌≤◌, ◌<◌, add-mul, suc-mul, mul-le-mul_right, mod-lt, div-add-mod', arith, not, T, leb→le, eqb→eq}
 use Prim.Native.Nat.{compare, Ordering}
-use lib.Dec.{is_le, compare_is_eq, nleb→lt}
-use lib.Ieee.{nearest}
-use lib.Ieee.Nearest.{closest}
+use Rattle.std.proofs.Math.Dec.{is_le, compare_is_eq, nleb→lt}
+use Rattle.std.specs.Float.Ieee.{nearest}
+use Rattle.std.specs.Float.Ieee.Nearest.{closest}
 
 -- x and n differ by at most half of u
 pub record Half (x n u : ℕ) : Type 0 where

@@ -1,10 +1,9 @@
 -- The f64 operations of a mean, each as one rounding of the exact fraction.
-use Rattle.std.proofs.Common.{◌≡◌, refl, sym, ap, ◌∙◌, ℕ, ◌*◌, ◌≤◌, ◌<◌, mul_comm, mul_assoc, mul-one, mul-pos, lt_irrefl, Bool, true, false, cond, T}
-use Rattle.std.proofs.Common.{le→leb, eqb, eqb→eq, ltb→lt}
-use lib.IntN.{pos}
-use lib.Ieee.{Float, binary64, add, div, in_float}
-use lib.Ieee.Scale.{round_same}
-use lib.Ieee.Positive.{num, den, den_pos, positive, value→cross}
+use Rattle.std.proofs.Common.{◌≡◌, refl, sym, ap, ◌∙◌, ℕ, ◌*◌, ◌≤◌, ◌<◌, mul_comm, mul_assoc, mul-one, mul-pos, lt_irrefl, Bool, true, false, cond, T, le→leb, eqb, eqb→eq, ltb→lt, pos, Float}
+use Rattle.std.specs.Float.{binary64}
+use Rattle.std.specs.Float.Ieee.{add, div, in_float}
+use Rattle.std.specs.Float.Ieee.Scale.{round_same}
+use Rattle.std.specs.Float.Ieee.Positive.{num, den, den_pos, positive, value→cross}
 use Rattle.laws.proofs.Floats.{plain, positive_plain, positive_num, both_plain}
 use Rattle.means.specs.Means.{whole}
 use Rattle.means.proofs.Fractions.{fraction, plus, over}

@@ -1,17 +1,16 @@
 -- One rounding of a fraction to an f64. From 2^-15 to 2^53 the result is finite and above zero, and at most 4 units of 2^-55 away;
 -- and a rounding never goes past a fraction that is itself an f64.
-use Rattle.std.proofs.Common.{◌≡◌, refl, sym, ap, ◌∙◌, subst, ℕ, ◌+◌, ◌-◌, ◌*◌, ◌/◌, ◌%◌, ◌^◌, ◌≤◌, ◌<◌, le_trans, le_of_eq, mul_comm, mul_assoc}
-use Rattle.std.proofs.Common.{mul_left_comm, mul-one, one-mul, mul-le-mul_right, mul-le-mul_left, mul-pos, le-div_iff_mul-le, arith, false, T, lit<}
-use Rattle.std.proofs.Common.{lit≤, pow-add, pow_pos}
+use Rattle.std.proofs.Common.{◌≡◌, refl, sym, ap, ◌∙◌, subst, ℕ, ◌+◌, ◌-◌, ◌*◌, ◌/◌, ◌%◌, ◌^◌, ◌≤◌, ◌<◌, le_trans, le_of_eq, mul_comm, mul_assoc, mul_left_comm, mul-one, one-mul, mul-le-mul_right, mul-le-mul_left, mul-pos, le-div_iff_mul-le, arith, false, T, lit<, lit≤, pow-add, pow_pos, Float}
 use Prim.Native.Nat.{compare}
-use lib.Ieee.{Float, binary64, low, size, round, of_int, le}
-use lib.Ieee.Digits.{size_reaches}
-use lib.Ieee.Exact.{HasValue, round_exact}
-use lib.Ieee.Nearest.{nearest-ge}
-use lib.Ieee.Order.{drop, kept, round_mono}
-use lib.Ieee.Scale.{grid, round_val, round_under, normal_of_fraction}
-use lib.Ieee.Positive.{num, den, positive, positive-finite, positive_of_value, value→cross, own_value, values_of_le, between}
-use lib.Ieee.Back.{round_whole}
+use Rattle.std.specs.Float.{binary64}
+use Rattle.std.specs.Float.Ieee.{low, size, round, of_int, le}
+use Rattle.std.specs.Float.Ieee.Digits.{size_reaches}
+use Rattle.std.specs.Float.Ieee.Exact.{HasValue, round_exact}
+use Rattle.std.specs.Float.Ieee.Nearest.{nearest-ge}
+use Rattle.std.specs.Float.Ieee.Order.{drop, kept, round_mono}
+use Rattle.std.specs.Float.Ieee.Scale.{grid, round_val, round_under, normal_of_fraction}
+use Rattle.std.specs.Float.Ieee.Positive.{num, den, positive, positive-finite, positive_of_value, value→cross, own_value, values_of_le, between}
+use Rattle.std.specs.Float.Ieee.Back.{round_whole}
 use Rattle.means.specs.Means.{Fraction, whole}
 use Rattle.means.proofs.Fractions.{fraction, as_ratio, through}
 use Rattle.means.proofs.Closeness.{Close, units}

@@ -1,7 +1,7 @@
 -- Scores as a ruler: where one score is at most another, so is its exact mean, up to one part in 2^30.
-use Rattle.std.proofs.Common.{T, lit<, lit≤}
-use lib.Ieee.{Float, le}
-use lib.Ieee.Positive.{den_pos, le→cross}
+use Rattle.std.proofs.Common.{T, lit<, lit≤, Float}
+use Rattle.std.specs.Float.Ieee.{le}
+use Rattle.std.specs.Float.Ieee.Positive.{den_pos, le→cross}
 use Rattle.means.specs.Means.{Fraction, Scores, AtMost}
 use Rattle.means.proofs.Fractions.{Ratio, as_ratio, looser, through}
 use Rattle.means.proofs.Rounding.{value}

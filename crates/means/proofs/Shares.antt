@@ -1,8 +1,7 @@
 -- The exact sum of the reciprocals, one counter after the other, is the fraction of Means.antt: the sum of D/c over D.
 -- Neither is zero. And the least and the most that the sum of the counters can be.
-use Rattle.std.proofs.Common.{◌≡◌, sym, ap, ap₂, ◌∙◌, List, [], ◌∷◌, ℕ, ◌+◌, ◌*◌, ◌/◌, ◌≤◌, le_refl, not-suc-le-zero, mul-pos, mul-zero, mul-one}
-use Rattle.std.proofs.Common.{one-mul, mul-add, add-mul, add_assoc, mul_assoc, mul_left_comm, arith, length}
-use native.Mathlib.Nat.{mul-div_cancel_left}
+use Rattle.std.proofs.Common.{◌≡◌, sym, ap, ap₂, ◌∙◌, List, [], ◌∷◌, ℕ, ◌+◌, ◌*◌, ◌/◌, ◌≤◌, le_refl, not-suc-le-zero, mul-pos, mul-zero, mul-one, one-mul, mul-add, add-mul, add_assoc, mul_assoc, mul_left_comm, arith, length}
+use Rattle.std.proofs.Math.Nat.{mul-div_cancel_left}
 use Rattle.means.specs.Means.{Counters, Fraction, sum, product, shares}
 use Rattle.means.proofs.Fractions.{fraction, plus}
 

@@ -1,8 +1,8 @@
 -- The computed sum of reciprocals against the exact one, one counter after the other.
-use Rattle.std.proofs.Common.{◌≡◌, sym, ap, ◌∙◌, subst, List, [], ◌∷◌, ℕ, suc, ◌+◌, ◌*◌, ◌≤◌, ◌<◌, zero-add, add-zero, lt_irrefl, le_trans, le_of_eq}
-use Rattle.std.proofs.Common.{mul_comm, mul_assoc, mul_left_comm, suc-mul, mul-le-mul_right, mul-le-mul_left, mul-pos, arith, length, T, lit<, lit≤}
-use lib.Ieee.{Float, binary64, add, div, of_int}
-use lib.Ieee.Positive.{num, den, den_pos}
+use Rattle.std.proofs.Common.{◌≡◌, sym, ap, ◌∙◌, subst, List, [], ◌∷◌, ℕ, suc, ◌+◌, ◌*◌, ◌≤◌, ◌<◌, zero-add, add-zero, lt_irrefl, le_trans, le_of_eq, mul_comm, mul_assoc, mul_left_comm, suc-mul, mul-le-mul_right, mul-le-mul_left, mul-pos, arith, length, T, lit<, lit≤, Float}
+use Rattle.std.specs.Float.{binary64}
+use Rattle.std.specs.Float.Ieee.{add, div, of_int}
+use Rattle.std.specs.Float.Ieee.Positive.{num, den, den_pos}
 use Rattle.laws.proofs.Floats.{plain, positive_plain}
 use Rattle.means.specs.Means.{Counters, Fraction, whole, reciprocals}
 use Rattle.means.specs.Tallies.{most_counters}

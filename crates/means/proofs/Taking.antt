@@ -1,6 +1,7 @@
 -- Counters taken in one at a time: the tally that grows is the tally of the list, its mean the list's, and it stays small.
-use Rattle.std.proofs.Common.{◌≡◌, refl, sym, ap, ◌∙◌, List, [], ◌∷◌, ◌++◌, ℕ, ◌+◌, ◌≤◌, zero-add, add-zero, add_assoc, length, length-append}
-use lib.Ieee.{Float, binary64, add, div}
+use Rattle.std.proofs.Common.{◌≡◌, refl, sym, ap, ◌∙◌, List, [], ◌∷◌, ◌++◌, ℕ, ◌+◌, ◌≤◌, zero-add, add-zero, add_assoc, length, length-append, Float}
+use Rattle.std.specs.Float.{binary64}
+use Rattle.std.specs.Float.Ieee.{add, div}
 use Rattle.means.specs.declared.MeanType.{MeanType}
 use Rattle.means.specs.declared.MeanType.TheVariants.{Arithmetic, Harmonic}
 use Rattle.means.specs.Means.{Counters, whole, reciprocals, sum, mean}

@@ -1,5 +1,5 @@
 use Rattle.std.proofs.Common.{refl}
-use lib.Ieee.{of_int, of_bits}
+use Rattle.std.specs.Float.Ieee.{of_int, of_bits}
 use Rattle.means.proofs.Tally.add.Goals as goal
 
 pub returns : goal.returns
