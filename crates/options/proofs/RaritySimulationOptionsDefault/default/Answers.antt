@@ -1,4 +1,4 @@
-use lib.Ieee.{nan_bits}
+use Rattle.std.specs.Float.Ieee.{nan_bits}
 use Rattle.options.proofs.RaritySimulationOptionsDefault.default.Goals as goal
 
 -- the bits are no NaN's
