@@ -1,17 +1,10 @@
 -- The places of a row and the cells of their lowest bytes: a place is found at its base, and only there.
 use Rattle.std.proofs.Common.{◌≡◌, ℕ, zero, suc, ◌+◌, ◌-◌, ◌<◌, ◌≤◌, Bool, true, false, cond, eqb, ltb, Some, None, refl, sym, ap, ◌∙◌, arith, ltb-true, ltb-false, eqb-true, lt-ltb, le-ltb, ne_eqb}
-use Rattle.rows.specs.Rows.{Row, slot_at}
-use Rattle.counting.specs.Cells.{first_memory_place, first_register_cell, first_memory_cell, place_at, base_of}
+use Rattle.counting.specs.Cells.{first_memory_place, first_register_cell, first_memory_cell, base_of}
 use Rattle.counting.specs.Probes.{place_of}
 
 back : (n : ℕ) → suc n - 1 ≡ n
 back n = omega arith
-
--- a place after the first is a slot
-pub place_slot : (r : Row) (place : ℕ) → (place ≡ 0 → ⊥) → place_at r place ≡ slot_at r (place - 1)
-unfolding place_at
-place_slot r zero h = absurd (h refl)
-place_slot r (suc n) h = rw (back n)
 
 pub base_slot : (place : ℕ) → (place ≡ 0 → ⊥) → base_of place ≡ cond (ltb (place - 1) 32) (first_register_cell + (place - 1)) (first_memory_cell + (place - 1 - 32))
 unfolding base_of
