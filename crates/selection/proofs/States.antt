@@ -1,6 +1,5 @@
 -- The selection by numbers is the selection of states: what the search's round needs.
-use Rattle.std.proofs.Common.{Bool, true, false, List, [], ◌∷◌, map, ◌≡◌, refl, sym, ap, ◌∙◌, ℕ, suc, ◌+◌, arith, length}
-use Rattle.std.proofs.Math.ListN.{length-map}
+use Rattle.std.proofs.Common.{Bool, true, false, List, [], ◌∷◌, map, ◌≡◌, refl, sym, ap, ◌∙◌, ℕ, suc, ◌+◌, arith}
 use Rattle.rows.specs.Rows.{Row}
 use Rattle.store.specs.Store.{nth_row}
 use Rattle.counting.specs.Counters.{taking}
@@ -55,7 +54,3 @@ module _ (m : MeanType) (k : ℕ) (flags : List Bool) (rows : List Row) where
       (ap (λ (l : List Ranked). map state_of (rarest lower k l).kept) (sym (ranked_candidates m running rows 0 flags rows from-0))
       ∙ ap (λ (z : Chosen Ranked). map state_of z.kept) (rarest_map (ranked rows) lower k c)
       ∙ ranked_states rows (rarest lower_score k c).kept)
-
-  pub kept_states_count : length (kept_numbers k (flagged_scores m flags rows) flags)
-      ≡ length (map state_of (rarest lower k (map (ranked_among m running) running)).kept)
-  kept_states_count = sym (length-map (kept_numbers k (flagged_scores m flags rows) flags) (nth_row rows)) ∙ ap (λ (l : List Row). length l) kept_states
