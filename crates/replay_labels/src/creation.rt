@@ -14,10 +14,12 @@ fn create(numbers: &[u64], program: &Program, words: &mut [u64], marks: &mut [u8
         &mut marks[..sizes.marks],
         sizes.memory,
         sizes.log,
-        program.code_address,
-        program.code.as_slice(),
-        program.data_address,
-        program.data.as_slice(),
+        loader::Program::new(
+            program.code_address,
+            program.code.as_slice(),
+            program.data_address,
+            program.data.as_slice(),
+        ),
     );
     Some(checked_number(checked))
 }

@@ -29,10 +29,12 @@ pub(crate) fn print(
         sizes.memory,
         sizes.log,
         step,
-        program.code_address,
-        program.code.as_slice(),
-        program.data_address,
-        program.data.as_slice(),
+        loader::Program::new(
+            program.code_address,
+            program.code.as_slice(),
+            program.data_address,
+            program.data.as_slice(),
+        ),
         program.tape,
         &mut output[..lent_output],
     ))
