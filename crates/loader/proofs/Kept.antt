@@ -1,10 +1,6 @@
 -- What loading leaves alone: the lengths of a row's words and marks, and its depth, limit and log count; and what a new executor starts with.
-use mathlib.Core.List.{List}
-use mathlib.Core.Path.{◌≡◌, refl, ◌∙◌}
-use Prim.Native.Nat.{ℕ, zero, suc, ◌+◌, ◌-◌, ◌*◌, ◌/◌, ◌<◌, ◌≤◌}
-use native.Mathlib.Omega.{arith}
-use lib.ListN.{length, get_or, length-set, length-replicate, get_or-replicate}
-use lib.Seq.{get_or-set_same, get_or-set_other}
+use Rattle.std.proofs.Common.{List, ◌≡◌, refl, ◌∙◌, ℕ, zero, suc, ◌+◌, ◌-◌, ◌*◌, ◌/◌, ◌<◌, ◌≤◌, arith, length, get_or, length-set, get_or-set_same, get_or-set_other}
+use Rattle.std.proofs.Math.ListN.{length-replicate, get_or-replicate}
 use Rattle.values.specs.declared.Value.TheVariants.{Concrete}
 use Rattle.rows.specs.Rows.{Row, blank, header, memory_words, depth_of, limit_of, log_count, set_word, set_slot, set_memory}
 use Rattle.loader.specs.Loading.{Segment, Program, word_at, loaded_from, loaded, started, programmed, new_executor}

@@ -1,11 +1,5 @@
 -- What the lengths of a row's lists decide: its shape, whether a segment can be loaded, and that the break is a word.
-use mathlib.Core.List.{List}
-use mathlib.Core.Path.{◌≡◌}
-use mathlib.Core.Logic.{⊎_elim}
-use Prim.Native.Nat.{ℕ, ◌+◌, ◌-◌, ◌*◌, ◌^◌, ◌<◌}
-use native.Mathlib.Nat.{eq-zero-or-pos}
-use native.Mathlib.Omega.{arith}
-use lib.ListN.{length}
+use Rattle.std.proofs.Common.{List, ◌≡◌, ⊎_elim, ℕ, ◌+◌, ◌-◌, ◌*◌, ◌^◌, ◌<◌, eq-zero-or-pos, arith, length}
 use Rattle.rows.specs.Rows.{Shape}
 use Rattle.loader.specs.Loading.{Segment, Fits}
 

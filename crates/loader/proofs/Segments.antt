@@ -1,8 +1,5 @@
 -- The loop over a segment's words: what is left to load, at each turn.
-use mathlib.Core.List.{List}
-use mathlib.Core.Path.{◌≡◌}
-use Prim.Native.Nat.{ℕ, suc, ◌+◌, ◌-◌, ◌*◌, ◌<◌, ◌≤◌}
-use native.Mathlib.Omega.{arith}
+use Rattle.std.proofs.Common.{List, ◌≡◌, ℕ, suc, ◌+◌, ◌-◌, ◌*◌, ◌<◌, ◌≤◌, arith}
 use Rattle.values.specs.declared.Value.TheVariants.{Concrete}
 use Rattle.rows.specs.Rows.{Row, set_memory}
 use Rattle.loader.specs.Loading.{word_at, loaded_from}
