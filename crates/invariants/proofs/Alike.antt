@@ -1,8 +1,6 @@
 -- Two rows that an instruction cannot tell apart, since it reads the same of both, and that its writes keep so.
 -- A law of all instructions is such a relation: the two rows differ in what no instruction reads, or are one row with what all writes keep.
-use mathlib.Core.Path.{◌≡◌, ap, ap₂}
-use Prim.Native.Nat.{ℕ, ◌+◌, ◌<◌}
-use lib.ListN.{length, drop}
+use Rattle.std.proofs.Common.{◌≡◌, ap, ap₂, ℕ, ◌+◌, ◌<◌, length, drop}
 use Rattle.values.specs.Values.{value_at}
 use Rattle.values.specs.declared.Value.{Value}
 use Rattle.rows.specs.Rows.{Row, header, pc_of, break_of, depth_of, log_start, log_count, log_room, memory_words, set_word, set_log_count, slot_at, set_slot}

@@ -1,11 +1,5 @@
 -- A system call keeps alike rows alike, and comes to the same in both.
-use mathlib.Core.Bool.{Bool, false, cond}
-use mathlib.Core.List.{List}
-use mathlib.Core.Path.{◌≡◌, refl, ap, ap₂}
-use Prim.Native.Nat.{ℕ, zero, suc, ◌+◌, ◌/◌, ◌%◌}
-use native.Mathlib.Omega.{arith}
-use lib.Dec.{ltb}
-use lib.ListN.{length}
+use Rattle.std.proofs.Common.{Bool, false, cond, List, ◌≡◌, refl, ap, ap₂, ℕ, zero, suc, ◌+◌, ◌/◌, ◌%◌, arith, ltb, length}
 use Rattle.laws.proofs.Choices.{both_chosen}
 use Rattle.calls.specs.declared.number.SyscallId.{SyscallId}
 use Rattle.calls.specs.declared.number.SyscallId.TheVariants as call

@@ -1,10 +1,6 @@
 -- Rows that differ in their limit are alike: no instruction reads or writes it.
-use mathlib.Core.List.{List}
-use mathlib.Core.Path.{◌≡◌, refl, sym, ap, ◌∙◌, subst}
-use Prim.Native.Nat.{ℕ, ◌+◌, ◌<◌}
-use native.Mathlib.Omega.{arith}
-use lib.ListN.{get_or, set, length-set}
-use lib.Seq.{get_or-set_other, set_comm, drop-set-lt}
+use Rattle.std.proofs.Common.{List, ◌≡◌, refl, sym, ap, ◌∙◌, subst, ℕ, ◌+◌, ◌<◌, arith, get_or, set, length-set, get_or-set_other, drop-set-lt}
+use Rattle.std.proofs.Math.Seq.{set_comm}
 use Rattle.values.specs.declared.Value.{Value}
 use Rattle.rows.specs.Rows.{Row, row, header, memory_words, log_start, log_room, log_count, set_word, set_limit, set_log_count, word_of, mark_of, set_slot}
 use Rattle.invariants.proofs.Alike.{Same, Alike, logged}

@@ -1,8 +1,5 @@
 -- An instruction keeps alike rows alike, and comes to the same in both.
-use mathlib.Core.List.{List}
-use mathlib.Core.Path.{◌≡◌, refl}
-use Prim.Native.Nat.{ℕ, ◌+◌, ◌/◌}
-use native.Mathlib.Omega.{arith}
+use Rattle.std.proofs.Common.{List, ◌≡◌, refl, ℕ, ◌+◌, ◌/◌, arith}
 use Rattle.riscu.specs.Decoding.{decoded}
 use Rattle.riscu.specs.Registers.{Registers, RegistersIn}
 use Rattle.riscu.specs.declared.instruction.Instruction.{Instruction}

@@ -1,7 +1,5 @@
 -- What every write of an instruction keeps, an instruction keeps.
-use mathlib.Core.List.{List}
-use mathlib.Core.Path.{◌≡◌, refl, ap, subst}
-use Prim.Native.Nat.{ℕ, ◌+◌, ◌<◌}
+use Rattle.std.proofs.Common.{List, ◌≡◌, refl, ap, subst, ℕ, ◌+◌, ◌<◌}
 use Rattle.values.specs.declared.Value.{Value}
 use Rattle.rows.specs.Rows.{Row, log_count, log_room, memory_words, set_word, set_slot}
 use Rattle.machine.specs.Steps.{advanced}

@@ -1,8 +1,5 @@
 -- A run never changes the lengths of a row.
-use mathlib.Core.List.{List}
-use mathlib.Core.Path.{◌≡◌, refl, ◌∙◌}
-use Prim.Native.Nat.{ℕ, ◌+◌}
-use lib.ListN.{length, length-set}
+use Rattle.std.proofs.Common.{List, ◌≡◌, refl, ◌∙◌, ℕ, ◌+◌, length, length-set}
 use Rattle.rows.specs.Rows.{Row, limit_of, set_limit}
 use Rattle.machine.specs.Steps.{advanced}
 use Rattle.machine.specs.Runs.{run_for, run_of}

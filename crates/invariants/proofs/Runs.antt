@@ -1,6 +1,5 @@
 -- What holds of a row and is kept by every instruction holds of the row that a run leaves.
-use mathlib.Core.List.{List}
-use Prim.Native.Nat.{ℕ, zero, suc, ◌+◌, ◌-◌}
+use Rattle.std.proofs.Common.{List, ℕ, zero, suc, ◌+◌, ◌-◌}
 use Rattle.answers.specs.declared.outcome.Progress.{Progress}
 use Rattle.answers.specs.declared.outcome.Progress.TheVariants.{Running, Ended}
 use Rattle.rows.specs.Rows.{Row, depth_of, limit_of, set_limit}

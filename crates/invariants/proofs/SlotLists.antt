@@ -1,12 +1,5 @@
 -- The tests of a sound row on lists: valid slots, and words that are all 0.
-use mathlib.Core.Bool.{Bool, true, ◌&&◌}
-use mathlib.Core.List.{List, [], ◌∷◌}
-use mathlib.Core.Path.{◌≡◌, refl, ap}
-use Prim.Native.Nat.{ℕ, zero, suc, ◌≤◌, ◌<◌}
-use native.Mathlib.Omega.{arith}
-use lib.Dec.{eqb}
-use lib.ListN.{length, get_or, set, drop}
-use borrow.Author.Tests.{eqb-true}
+use Rattle.std.proofs.Common.{Bool, true, ◌&&◌, List, [], ◌∷◌, ◌≡◌, refl, ap, ℕ, zero, suc, ◌≤◌, ◌<◌, arith, eqb, length, get_or, set, drop, eqb-true}
 use Rattle.laws.proofs.Choices.{both, parts}
 use Rattle.values.specs.declared.Value.{Value}
 use Rattle.values.specs.declared.Value.TheVariants.{Concrete, Uninitialized}

@@ -1,11 +1,6 @@
 -- Every instruction and every run keeps a sound row sound.
 -- So register 0 stays a marked 0, marks stay 0 or 1, unmarked words and the log's words past its count stay 0, and the count within its room.
-use mathlib.Core.Bool.{true}
-use mathlib.Core.List.{List}
-use mathlib.Core.Path.{◌≡◌, ◌∙◌}
-use Prim.Native.Nat.{ℕ, ◌+◌}
-use native.Mathlib.Omega.{arith}
-use lib.ListN.{length, length-set}
+use Rattle.std.proofs.Common.{true, List, ◌≡◌, ◌∙◌, ℕ, ◌+◌, arith, length, length-set}
 use Rattle.rows.specs.Rows.{Row, Shape, memory_words, limit_of, mark_of}
 use Rattle.rows.specs.Valid.{sound_row}
 use Rattle.machine.specs.Steps.{advanced}

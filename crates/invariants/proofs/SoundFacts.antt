@@ -1,13 +1,5 @@
 -- The conditions of a sound row as facts.
-use mathlib.Core.Bool.{Bool, true, false, cond}
-use mathlib.Core.List.{List, [], ◌∷◌}
-use mathlib.Core.Path.{◌≡◌, refl}
-use Prim.Native.Nat.{ℕ, ◌+◌, ◌-◌, ◌≤◌, ◌<◌}
-use native.Mathlib.Omega.{arith}
-use lib.Dec.{eqb}
-use lib.ListN.{length, get_or, drop}
-use lib.Seq.{get_or-drop}
-use borrow.Author.Tests.{eqb-true, eq-eqb, leb-true, le-leb}
+use Rattle.std.proofs.Common.{Bool, true, false, cond, List, [], ◌∷◌, ◌≡◌, refl, ℕ, ◌+◌, ◌-◌, ◌≤◌, ◌<◌, arith, eqb, length, get_or, drop, get_or-drop, eqb-true, eq-eqb, leb-true, le-leb}
 use Rattle.laws.proofs.Choices.{both, parts}
 use Rattle.rows.specs.Rows.{Row, header, log_start, log_room, log_count}
 use Rattle.rows.specs.Valid.{slot_valid, slots_valid, all_zero, sound_row}

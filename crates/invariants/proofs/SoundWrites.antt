@@ -1,9 +1,6 @@
 -- A sound row stays sound through every write of an instruction.
-use mathlib.Core.Path.{◌≡◌, ◌∙◌}
-use Prim.Native.Nat.{ℕ, ◌+◌, ◌<◌}
-use native.Mathlib.Omega.{arith}
-use lib.ListN.{length, set, drop, length-set}
-use lib.Seq.{get_or-set_same, get_or-set_other, drop-set-lt, drop-set-add, drop-drop}
+use Rattle.std.proofs.Common.{◌≡◌, ◌∙◌, ℕ, ◌+◌, ◌<◌, arith, length, set, drop, length-set, get_or-set_same, get_or-set_other, drop-set-lt, drop-drop}
+use Rattle.std.proofs.Math.Seq.{drop-set-add}
 use Rattle.values.specs.declared.Value.{Value}
 use Rattle.rows.specs.Rows.{Row, header, log_start, log_room, log_count, set_word, set_slot, word_of, mark_of}
 use Rattle.invariants.proofs.Alike.{logged}

@@ -1,10 +1,5 @@
 -- A run never changes the mark of register 0: no instruction writes to slot 0.
-use mathlib.Core.List.{List}
-use mathlib.Core.Path.{◌≡◌, refl, ap, ◌∙◌}
-use Prim.Native.Nat.{ℕ, ◌-◌}
-use native.Mathlib.Omega.{arith}
-use lib.ListN.{get_or, length-set}
-use lib.Seq.{get_or-set_other}
+use Rattle.std.proofs.Common.{List, ◌≡◌, refl, ap, ◌∙◌, ℕ, ◌-◌, arith, get_or, length-set, get_or-set_other}
 use Rattle.rows.specs.Rows.{Row, memory_words, mark_of}
 use Rattle.machine.specs.Runs.{run_of}
 use Rattle.invariants.proofs.Invariant.{Invariant, advanced_keeps}
