@@ -1,7 +1,7 @@
 -- What the moves do: parts of one list copied or exchanged, which the rows then are too, and rows that become zero.
-use Rattle.std.proofs.Common.{refl, get_or, subst, get_or-drop, get_or-take, length-set, ◌≡◌, ℕ, suc, ◌+◌, ◌-◌, ◌*◌, ◌<◌, ◌≤◌, List, [], ◌∷◌, ◌++◌, length, set, take, drop, replicate, sym, ap, ◌∙◌, append_assoc, append-nil, add-one, arith, length-append, length-drop, take-append-drop, drop_of_length-le, length-take-le, drop-cons, drop-drop, set-set, take_at, drop_at}
+use Rattle.std.proofs.Common.{get_or, subst, get_or-drop, get_or-take, length-set, ◌≡◌, ℕ, suc, ◌+◌, ◌-◌, ◌*◌, ◌<◌, ◌≤◌, List, [], ◌∷◌, ◌++◌, length, set, take, drop, replicate, sym, ap, ◌∙◌, append_assoc, append-nil, add-one, arith, length-append, length-drop, take-append-drop, drop_of_length-le, length-take-le, drop-cons, drop-drop, set-set, take_at, drop_at}
 use Rattle.std.proofs.Math.ListN.{get_or-append, length-replicate, replicate-append-replicate}
-use Rattle.std.proofs.Math.Seq.{paste-zero, paste-suc, paste, length-paste, set-get_or, set_at, drop-append-add}
+use Rattle.std.proofs.Math.Seq.{paste-suc, paste, length-paste, set-get_or, set_at, drop-append-add}
 use Rattle.std.proofs.lemmas.List.{take-append-le, drop-append-le}
 use borrow.Rule.Slice.PartMut.{put_mid}
 use Rattle.rows.specs.Rows.{Row, row}
@@ -17,9 +17,6 @@ pub record Copied {A : Type 0} (from to i : ℕ) (before now : List A) : Type 0 
   pub copied : now ≡ part_copied from to i before
 
 module _ {A : Type 0} (from to : ℕ) (before : List A) where
-  pub copy_none : Copied from to 0 before before
-  copy_none = record { same = refl; copied = paste-zero before to (drop from before) }
-
   -- what stands before the place is as it was
   still : (i k : ℕ) (z : A) → k < to → to ≤ length before → get_or (part_copied from to i before) k z ≡ get_or before k z
   still i k z h l =

@@ -1,6 +1,6 @@
 -- Two flat lists cut into rows: reading and writing row r is `nth_row` and `set` on the list of rows, and the rows determine the two lists.
 use Rattle.std.proofs.Common.{◌≡◌, refl, sym, ap, ◌∙◌, subst, List, [], ◌∷◌, ◌++◌, append_assoc, ℕ, zero, suc, ◌+◌, ◌*◌, ◌-◌, ◌≤◌, ◌<◌, zero-mul, suc-mul, add_comm, mul-le-mul_right, le_of_suc-le-suc, not-suc-le-zero, arith, length, set, take, drop, length-drop, take-append-drop, take_at, drop_at, take-add, drop-drop, length-take-le}
-use native.Mathlib.Nat.{add-sub_cancel_left}
+use Rattle.std.proofs.Math.Nat.{add-sub_cancel_left}
 use borrow.Rule.Slice.PartMut.{put_mid}
 use Rattle.rows.specs.Rows.{Row, row, Shape}
 use Rattle.store.specs.declared.layout.Layout.{Layout}

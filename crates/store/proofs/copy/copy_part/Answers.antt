@@ -1,8 +1,5 @@
-use Rattle.store.proofs.Moves.{copy_none, copy_on}
+use Rattle.store.proofs.Moves.{copy_on}
 use Rattle.store.proofs.copy.copy_part.Goals as goal
-
-pub loop-i-init : goal.loop-i-init
-loop-i-init g c = copy_none _ _ _
 
 pub loop-i-preserved : goal.loop-i-preserved
 loop-i-preserved g c =
