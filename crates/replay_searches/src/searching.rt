@@ -21,10 +21,12 @@ pub(crate) fn search_line(
         &mut marks[..lent_marks],
         asked,
         number_at(numbers, LOG),
-        program.code_address,
-        program.code.as_slice(),
-        program.data_address,
-        program.data.as_slice(),
+        loader::Program::new(
+            program.code_address,
+            program.code.as_slice(),
+            program.data_address,
+            program.data.as_slice(),
+        ),
         program.tape,
     );
     Some(search_answer(searched))
