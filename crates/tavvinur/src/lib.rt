@@ -17,6 +17,7 @@ ghost use Rattle.tavvinur.specs.Printing.{printed_left, program_left, OneRun};
 use answers::answer::Answer;
 use checks::refusal::checked_number;
 use executor::run_answer;
+use loader::Program;
 use options::{RaritySimulationOptions, mean_number, mean_numbered};
 use scoring::scoring_number;
 use search::answer::search_answer;
@@ -107,17 +108,8 @@ pub extern "C" fn tavvinur_new_executor(
         ≡ creation_left memory log (image code_address code.now data_address «data».now)
         (row words.old marks.old) }
 {
-    let checked = executor::new_executor(
-        words,
-        marks,
-        memory,
-        log,
-        code_address,
-        code,
-        data_address,
-        data,
-    );
-    checked_number(checked)
+    let program = Program::new(code_address, code, data_address, data);
+    checked_number(executor::new_executor(words, marks, memory, log, program))
 }
 
 // Runs a lent row for at most `step` instructions more, on a lent tape from its front.
@@ -158,19 +150,8 @@ pub extern "C" fn tavvinur_run_program(
         input.now words.old marks.old words.new marks.new result }
     ensures written_in_bounds { result.written ≤ length output.old }
 {
-    let printed = runner::run_program(
-        words,
-        marks,
-        memory,
-        log,
-        step,
-        code_address,
-        code,
-        data_address,
-        data,
-        input,
-        output,
-    );
+    let program = Program::new(code_address, code, data_address, data);
+    let printed = runner::run_program(words, marks, memory, log, step, program, input, output);
     let answer = run_answer(printed.answer);
     Printed {
         number: answer.number,
@@ -236,16 +217,7 @@ pub extern "C" fn tavvinur_search(
     if options.mean > MOST_MEAN {
         return Answer::refused(UNKNOWN_MEAN);
     }
-    let searched = search::search_for_bugs(
-        words,
-        marks,
-        RaritySimulationOptions::from(options),
-        log,
-        code_address,
-        code,
-        data_address,
-        data,
-        tape,
-    );
-    search_answer(searched)
+    let program = Program::new(code_address, code, data_address, data);
+    let options = RaritySimulationOptions::from(options);
+    search_answer(search::search_for_bugs(words, marks, options, log, program, tape))
 }
