@@ -1,6 +1,6 @@
 -- The table holds: every case is computed from the definitions.
-use mathlib.Core.Path.{refl}
-use lib.Ieee.{mul, of_int, of_bits, le}
+use Rattle.std.proofs.Common.{refl}
+use Rattle.std.specs.Float.Ieee.{mul, of_int, of_bits, le}
 use Rattle.riscu.specs.Formats.{signed}
 use Rattle.riscu.specs.Decoding.{decoded, decoded_op}
 use Rattle.effects.specs.Arithmetic.{operated}
