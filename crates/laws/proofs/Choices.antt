@@ -1,5 +1,5 @@
--- What a test chooses, tests of two parts, and tests that are the same.
-use Rattle.std.proofs.Common.{◌≡◌, refl, sym, ◌∙◌, Bool, true, false, cond, ◌&&◌, ◌||◌, ℕ, ◌≤◌, ◌<◌, ltb, lt-ltb, le-ltb, ltb-true, ltb-false}
+-- What a test chooses, and tests of two parts.
+use Rattle.std.proofs.Common.{◌≡◌, refl, Bool, true, false, cond, ◌&&◌, ◌||◌}
 
 -- a claim about it, from the claim about each choice
 pub chosen : {A : Type 0} (P : A → Type 0) (b : Bool) (x y : A) → (b ≡ true → P x) → (b ≡ false → P y) → P (cond b x y)
@@ -28,11 +28,3 @@ parts false b h = (cc, cc)
 pub neither : (a b : Bool) → (a || b) ≡ false → (a ≡ false) × (b ≡ false)
 neither true b h = (h, cc)
 neither false b h = (refl, h)
-
--- two tests that hold of the same numbers are equal
-pub same_test : (a b c d : ℕ) → (a < b → c < d) → (b ≤ a → d ≤ c) → ltb a b ≡ ltb c d
-same_test a b c d f g = go (ltb a b) refl
-  where
-    go : (t : Bool) → ltb a b ≡ t → ltb a b ≡ ltb c d
-    go true p = p ∙ sym (lt-ltb c d (f (ltb-true a b p)))
-    go false p = p ∙ sym (le-ltb c d (g (ltb-false a b p)))
