@@ -1,5 +1,5 @@
 // From a word to its instruction, by opcode, funct3 and funct7.
-ghost use Rattle.std.specs.Prelude.{◌≡◌, ◌<◌, ◌^◌};
+ghost use Rattle.std.specs.Prelude.{◌≡◌};
 ghost use Rattle.riscu.specs.Formats.{r_type, i_type, s_type, b_type, u_type, j_type};
 ghost use Rattle.riscu.specs.Formats.{funct3 as funct3_of};
 ghost use Rattle.riscu.specs.Decoding.{decoded, decoded_op};
@@ -8,13 +8,13 @@ use crate::bits::bits;
 use crate::immediate::{imm_i, imm_j, imm_s, imm_u};
 use crate::instruction::{BType, IType, Instruction, JType, RType, SType, UType};
 
-fn funct3(word: u64) -> u64
+fn funct3(word: u32) -> u32
     ensures { result ≡ funct3_of word }
 {
     bits::<14, 12>(word)
 }
 
-fn r_type(word: u64) -> RType
+fn r_type(word: u32) -> RType
     ensures { result ≡ r_type word }
 {
     RType {
@@ -24,8 +24,7 @@ fn r_type(word: u64) -> RType
     }
 }
 
-fn i_type(word: u64) -> IType
-    requires { word < 2 ^ 32 }
+fn i_type(word: u32) -> IType
     ensures { result ≡ i_type word }
 {
     IType {
@@ -35,8 +34,7 @@ fn i_type(word: u64) -> IType
     }
 }
 
-fn s_type(word: u64) -> SType
-    requires { word < 2 ^ 32 }
+fn s_type(word: u32) -> SType
     ensures { result ≡ s_type word }
 {
     SType {
@@ -46,19 +44,17 @@ fn s_type(word: u64) -> SType
     }
 }
 
-fn b_type(raw: u32) -> BType
-    ensures { result ≡ b_type raw }
+fn b_type(word: u32) -> BType
+    ensures { result ≡ b_type word }
 {
-    let word = raw as u64;
     BType {
         rs1: bits::<19, 15>(word) as usize,
         rs2: bits::<24, 20>(word) as usize,
-        word: raw,
+        word,
     }
 }
 
-fn u_type(word: u64) -> UType
-    requires { word < 2 ^ 32 }
+fn u_type(word: u32) -> UType
     ensures { result ≡ u_type word }
 {
     UType {
@@ -67,8 +63,7 @@ fn u_type(word: u64) -> UType
     }
 }
 
-fn j_type(word: u64) -> JType
-    requires { word < 2 ^ 32 }
+fn j_type(word: u32) -> JType
     ensures { result ≡ j_type word }
 {
     JType {
@@ -79,7 +74,7 @@ fn j_type(word: u64) -> JType
 
 // Opcode 0x33: register with register. funct7 says which group of operations it is, funct3 which of the group.
 #[tactic(auto, unfolding(crate::specs::Decoding::decoded_op))]
-fn decode_op(word: u64) -> Option<Instruction>
+fn decode_op(word: u32) -> Option<Instruction>
     ensures { result ≡ decoded_op word }
 {
     let funct7 = bits::<31, 25>(word);
@@ -110,33 +105,32 @@ fn decode_op(word: u64) -> Option<Instruction>
 pub fn decode(raw: u32) -> Option<Instruction>
     ensures { result ≡ decoded raw }
 {
-    let word = raw as u64;
-    let opcode = bits::<6, 0>(word);
+    let opcode = bits::<6, 0>(raw);
     match opcode {
-        0x37 => Some(Instruction::Lui(u_type(word))),
-        0x6F => Some(Instruction::Jal(j_type(word))),
-        0x67 => match funct3(word) {
-            0 => Some(Instruction::Jalr(i_type(word))),
+        0x37 => Some(Instruction::Lui(u_type(raw))),
+        0x6F => Some(Instruction::Jal(j_type(raw))),
+        0x67 => match funct3(raw) {
+            0 => Some(Instruction::Jalr(i_type(raw))),
             _ => None,
         },
-        0x63 => match funct3(word) {
+        0x63 => match funct3(raw) {
             0 => Some(Instruction::Beq(b_type(raw))),
             _ => None,
         },
-        0x13 => match funct3(word) {
-            0 => Some(Instruction::Addi(i_type(word))),
+        0x13 => match funct3(raw) {
+            0 => Some(Instruction::Addi(i_type(raw))),
             _ => None,
         },
-        0x03 => match funct3(word) {
-            3 => Some(Instruction::Ld(i_type(word))),
+        0x03 => match funct3(raw) {
+            3 => Some(Instruction::Ld(i_type(raw))),
             _ => None,
         },
-        0x23 => match funct3(word) {
-            3 => Some(Instruction::Sd(s_type(word))),
+        0x23 => match funct3(raw) {
+            3 => Some(Instruction::Sd(s_type(raw))),
             _ => None,
         },
-        0x33 => decode_op(word),
-        0x73 => match word {
+        0x33 => decode_op(raw),
+        0x73 => match raw {
             0x73 => Some(Instruction::Ecall),
             _ => None,
         },
