@@ -42,10 +42,6 @@ whole bytes h = eqb-true _ _ h
 pub inside : (w address bytes : ℕ) → is_inside w address bytes ≡ true → 0 < bytes → address / 8 + bytes / 8 ≤ w
 inside w address bytes h k = leb-true _ _ (rw (ne_eqb bytes 0 (λ e. omega arith)) at h)
 
-pub valid_sound : (r : Row) → valid_row r ≡ true → sound_row r ≡ true
-unfolding valid_row
-valid_sound r h = (parts (sound_row r) (leb (limit_of r) (2 ^ 63)) h).0
-
 pub valid_limit : (r : Row) → valid_row r ≡ true → limit_of r ≤ 2 ^ 63
 unfolding valid_row
 valid_limit r h = leb-true _ _ (parts (sound_row r) (leb (limit_of r) (2 ^ 63)) h).1
