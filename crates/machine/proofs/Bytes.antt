@@ -1,5 +1,5 @@
 -- The bytes of a write call, copied one after the other.
-use Rattle.std.proofs.Common.{◌≡◌, sym, ap, ◌∙◌, List, [], ◌∷◌, ◌++◌, ℕ, zero, suc, ◌+◌, ◌<◌, ◌≤◌, add-one, arith, length, take, set, take-suc-set, take_all}
+use Rattle.std.proofs.Common.{◌≡◌, sym, ap, ◌∙◌, List, [], ◌∷◌, ◌++◌, ℕ, zero, suc, ◌+◌, ◌<◌, add-one, arith, length, take, set, take-suc-set}
 use Rattle.rows.specs.Rows.{Row}
 use Rattle.machine.specs.Writes.{byte_at, bytes_from}
 
@@ -21,9 +21,3 @@ bytes_on r address output k byte more copied next =
     ∙ ap (λ (b : ℕ). bytes_from k address r ++ (b ∷ [])) next
     ∙ sym (one_more k address r)
     ∙ ap (λ (i : ℕ). bytes_from i address r) (sym (add-one k))
-
--- all n are copied
-pub all_copied : (r : Row) (address : ℕ) (output : List ℕ) (k n : ℕ) → k ≤ n → length output ≡ n → length output ≤ k →
-    take k output ≡ bytes_from k address r → output ≡ bytes_from n address r
-all_copied r address output k n most whole all copied =
-    sym (take_all k output all) ∙ copied ∙ ap (λ (i : ℕ). bytes_from i address r) (omega arith)
