@@ -1,6 +1,6 @@
 -- What a run comes to is what its halt leaves to do, and at a write call fewer instructions are left.
 use Rattle.std.proofs.Common.{cond, List, ◌≡◌, refl, sym, ap, ◌∙◌, ℕ, zero, suc, ◌+◌, ◌-◌, ◌≤◌, ◌<◌, add-zero, arith, leb, length, length-set, get_or-set_same, get_or-set_other}
-use lib.Seq.{set-get_or}
+use Rattle.std.proofs.Math.Seq.{set-get_or}
 use Rattle.answers.specs.declared.error.ExecutorError.TheVariants.{OutputFull}
 use Rattle.answers.specs.declared.outcome.Outcome.TheVariants.{Failed}
 use Rattle.answers.specs.declared.outcome.Progress.TheVariants.{Running, Ended}

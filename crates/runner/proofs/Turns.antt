@@ -1,7 +1,7 @@
 -- The turns of a run whose write calls are put out: what each leaves is what the run still has to do.
 use Rattle.std.proofs.Common.{List, [], ◌++◌, append-nil, append_assoc, ◌≡◌, sym, ap, ◌∙◌, subst, ℕ, ◌+◌, ◌-◌, ◌≤◌, ◌<◌, arith, le-leb, length, length-append}
-use native.Mathlib.Nat.{sub-zero}
-use borrow.Author.Tests.{lt-leb}
+use Rattle.std.proofs.Math.Nat.{sub-zero}
+use Rattle.std.proofs.lemmas.Bool.{lt-leb}
 use Rattle.answers.specs.declared.error.ExecutorError.TheVariants.{OutputFull}
 use Rattle.answers.specs.declared.outcome.Outcome.{Outcome}
 use Rattle.answers.specs.declared.outcome.Outcome.TheVariants.{Failed}
