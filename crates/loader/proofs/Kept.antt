@@ -2,7 +2,7 @@
 use Rattle.std.proofs.Common.{List, ◌≡◌, refl, ◌∙◌, ℕ, zero, suc, ◌+◌, ◌-◌, ◌*◌, ◌/◌, ◌<◌, ◌≤◌, arith, length, get_or, length-set, get_or-set_same, get_or-set_other}
 use Rattle.std.proofs.Math.ListN.{length-replicate, get_or-replicate}
 use Rattle.values.specs.declared.Value.TheVariants.{Concrete}
-use Rattle.rows.specs.Rows.{Row, blank, header, memory_words, depth_of, limit_of, log_count, set_word, set_slot, set_memory}
+use Rattle.rows.specs.Rows.{Row, blank, header, memory_words, limit_of, set_word, set_slot, set_memory}
 use Rattle.loader.specs.Loading.{Segment, Program, word_at, loaded_from, loaded, started, programmed, new_executor}
 
 -- a row with its stack pointer and zero register, before anything is in its memory
@@ -59,12 +59,7 @@ programmed_header i low high p r =
     ∙ get_or-set_other (set_slot 2 (Concrete (8 * memory_words r - 8)) r).words (header + 0) i 0 0 (λ e. omega arith)
     ∙ get_or-set_other r.words (header + 2) i (8 * memory_words r - 8) 0 (λ e. omega arith)
 
--- register 0 is a marked 0
-pub programmed_zero_word : (p : Program) (r : Row) → header < length r.words → get_or (programmed p r).words header 0 ≡ 0
-programmed_zero_word p r h =
-    programmed_low header (omega arith) (omega arith) p r
-    ∙ get_or-set_same (set_slot 2 (Concrete (8 * memory_words r - 8)) r).words header 0 0 (simp length-set h)
-
+-- register 0 is marked
 pub programmed_zero_mark : (p : Program) (r : Row) → 0 < length r.marks → get_or (programmed p r).marks 0 0 ≡ 1
 programmed_zero_mark p r h =
     programmed_kept (λ (r : Row). get_or r.marks 0 0)
@@ -88,18 +83,8 @@ module _ (p : Program) (words marks : ℕ) where
     unfolding new_executor
     new_header i low high = programmed_header i low high p (blank words marks) ∙ get_or-replicate words i 0 0 (omega arith)
 
-    pub new_depth : depth_of (new_executor p words marks) ≡ 0
-    new_depth = new_header 2 (omega arith) (omega arith)
-
     pub new_limit : limit_of (new_executor p words marks) ≡ 0
     new_limit = new_header 3 (omega arith) (omega arith)
-
-    pub new_log_count : log_count (new_executor p words marks) ≡ 0
-    new_log_count = new_header 4 (omega arith) (omega arith)
-
-    pub new_zero_word : get_or (new_executor p words marks).words header 0 ≡ 0
-    unfolding new_executor
-    new_zero_word = programmed_zero_word p (blank words marks) (simp length-replicate (omega arith))
 
     pub new_zero_mark : get_or (new_executor p words marks).marks 0 0 ≡ 1
     unfolding new_executor
