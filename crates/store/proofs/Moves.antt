@@ -1,7 +1,7 @@
 -- What the moves do: parts of one list copied or exchanged, which the rows then are too, and rows that become zero.
-use Rattle.std.proofs.Common.{get_or, subst, get_or-drop, get_or-take, length-set, ◌≡◌, ℕ, suc, ◌+◌, ◌-◌, ◌*◌, ◌<◌, ◌≤◌, List, [], ◌∷◌, ◌++◌, length, set, take, drop, replicate, sym, ap, ◌∙◌, append_assoc, append-nil, add-one, arith, length-append, length-drop, take-append-drop, drop_of_length-le, length-take-le, drop-cons, drop-drop, set-set, take_at, drop_at}
+use Rattle.std.proofs.Common.{get_or, subst, get_or-drop, get_or-take, length-set, ◌≡◌, ℕ, suc, ◌+◌, ◌-◌, ◌*◌, ◌<◌, ◌≤◌, List, [], ◌∷◌, ◌++◌, length, set, take, drop, replicate, sym, ap, ◌∙◌, append_assoc, append-nil, add-one, arith, length-append, length-drop, drop_of_length-le, length-take-le, drop-cons, drop-drop, take_at, drop_at}
 use Rattle.std.proofs.Math.ListN.{get_or-append, length-replicate, replicate-append-replicate}
-use Rattle.std.proofs.Math.Seq.{paste-suc, paste, length-paste, set-get_or, set_at, drop-append-add}
+use Rattle.std.proofs.Math.Seq.{paste-suc, paste, length-paste, set_at, drop-append-add}
 use Rattle.std.proofs.lemmas.List.{take-append-le, drop-append-le}
 use borrow.Rule.Slice.PartMut.{put_mid}
 use Rattle.rows.specs.Rows.{Row, row}
@@ -104,11 +104,6 @@ rows_swap n w m i p words marks ew em ip h =
     pasted k l e hi =
         length-paste l (i * k) (drop (p * k) l) k (omega (arith, row_end n k i hi, e)) (omega (arith, length-drop (p * k) l, row_end n k p h, e)) ∙ e
 
--- a row that changes places with itself
-pub swap_self : (i p : ℕ) (rows : List Row) → i ≡ p → rows ≡ rows_swapped i p rows
-swap_self i p rows e =
-    sym (ap (λ (k : ℕ). set (set rows k (nth_row rows p)) p (nth_row rows k)) e ∙ set-set rows p (nth_row rows p) (nth_row rows p) ∙ set-get_or rows p (row [] []))
-
 -- the rows from `from` to r are zero, and the others as before
 pub record Zeroed (s : Layout) (from r : ℕ) (before now : List Row) : Type 0 where
   pub past : from ≤ r
@@ -116,16 +111,6 @@ pub record Zeroed (s : Layout) (from r : ℕ) (before now : List Row) : Type 0 w
   pub zeros : now ≡ (take from before ++ replicate (r - from) (zero_row s)) ++ drop r before
 
 module _ (s : Layout) (from : ℕ) (before : List Row) where
-  pub zero_none : from ≤ s.rows → Zeroed s from from before before
-  zero_none h =
-      let none : from - from ≡ 0 = omega arith in
-      record {
-        past = omega arith;
-        within = h;
-        zeros = sym (ap (λ (k : ℕ). (take from before ++ replicate k (zero_row s)) ++ drop from before) none
-            ∙ ap (λ (l : List Row). l ++ drop from before) (append-nil (take from before)) ∙ take-append-drop from before);
-      }
-
   -- row r too
   zero_more : (z : Row) (r : ℕ) → from ≤ r → r < length before
       → set ((take from before ++ replicate (r - from) z) ++ drop r before) r z ≡ (take from before ++ replicate (r + 1 - from) z) ++ drop (r + 1) before

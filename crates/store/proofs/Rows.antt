@@ -120,11 +120,6 @@ pub marks_same : (n w m : ℕ) (words marks words' marks' : List ℕ) → length
     → cut n w m words marks ≡ cut n w m words' marks' → marks ≡ marks'
 marks_same n w m words marks words' marks' e e' s = sym (marks_flat n w m words marks e) ∙ ap marks_of s ∙ marks_flat n w m words' marks' e'
 
--- a store that a function changed still fits
-pub fit_same : {s : Layout} {words marks : List ℕ} (words' marks' : List ℕ) → Fit s words marks
-    → length words' ≡ length words → length marks' ≡ length marks → Fit s words' marks'
-fit_same words' marks' f ew em = record { sized = f.sized; all_words = ew ∙ f.all_words; all_marks = em ∙ f.all_marks }
-
 -- the part of row r as the borrow checker says it of `&mut l[a..a + k]`, with `let a = r * k`
 abbrev pub lent : ℕ → ℕ → List ℕ → List ℕ
 lent k r l = take (r * k + k - r * k) (drop (r * k) l)
@@ -149,9 +144,6 @@ module _ {s : Layout} {words marks : List ℕ} (f : Fit s words marks) (r : ℕ)
 
   pub marks_of_row : length (take s.marks (drop (r * s.marks) marks)) ≡ s.marks
   marks_of_row = part_length s.rows s.marks r marks h f.all_marks
-
-  pub row_shape : Shape (take s.words (drop (r * s.words) words)) (take s.marks (drop (r * s.marks) marks))
-  row_shape = record { registers = omega (arith, marks_of_row, f.sized.registers); slots = omega (arith, words_of_row, marks_of_row, f.sized.slots) }
 
   pub lent_words : length (lent s.words r words) ≡ s.words
   lent_words = ap length (lent_is_part s.words r words) ∙ words_of_row
