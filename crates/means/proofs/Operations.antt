@@ -1,7 +1,7 @@
 -- The f64 operations of a mean, each as one rounding of the exact fraction.
-use Rattle.std.proofs.Common.{◌≡◌, refl, sym, ap, ◌∙◌, ℕ, ◌*◌, ◌≤◌, ◌<◌, mul_comm, mul_assoc, mul-one, mul-pos, lt_irrefl, Bool, true, false, cond, T, le→leb, eqb, eqb→eq, ltb→lt, pos, Float}
+use Rattle.std.proofs.Common.{◌≡◌, refl, sym, ap, ◌∙◌, ℕ, ◌*◌, ◌≤◌, ◌<◌, mul_comm, mul_assoc, mul-one, mul-pos, lt_irrefl, Bool, true, false, cond, T, eqb, eqb→eq, ltb→lt, Float}
 use Rattle.std.specs.Float.{binary64}
-use Rattle.std.specs.Float.Ieee.{add, div, in_float}
+use Rattle.std.specs.Float.Ieee.{add, div}
 use Rattle.std.specs.Float.Ieee.Scale.{round_same}
 use Rattle.std.specs.Float.Ieee.Positive.{num, den, den_pos, positive, value→cross}
 use Rattle.laws.proofs.Floats.{plain, positive_plain, positive_num, both_plain}
@@ -29,11 +29,6 @@ div_is x y p q =
     (positive_plain y q) q
 
 -- ---- whole numbers up to 2^53
--- a cast loses nothing
-pub cast : (n : ℕ) → n ≤ most_whole → T (in_float binary64 (pos n))
-unfolding in_float
-cast n h = le→leb n most_whole h
-
 whole_num : (n : ℕ) → n ≤ most_whole → num (whole n) ≡ n * den (whole n)
 whole_num n h = sym (mul-one (num (whole n))) ∙ value→cross (whole n) n 1 (whole_value n h)
 

@@ -1,16 +1,11 @@
--- Counters taken in one at a time: the tally that grows is the tally of the list, its mean the list's, and it stays small.
-use Rattle.std.proofs.Common.{◌≡◌, refl, sym, ap, ◌∙◌, List, [], ◌∷◌, ◌++◌, ℕ, ◌+◌, ◌≤◌, zero-add, add-zero, add_assoc, length, length-append, Float}
+-- Counters taken in one at a time: the tally that grows is the tally of the list, and its mean the list's.
+use Rattle.std.proofs.Common.{◌≡◌, refl, sym, ap, ◌∙◌, List, [], ◌∷◌, ◌++◌, ℕ, ◌+◌, zero-add, add-zero, add_assoc, length-append, Float}
 use Rattle.std.specs.Float.{binary64}
 use Rattle.std.specs.Float.Ieee.{add, div}
 use Rattle.means.specs.declared.MeanType.{MeanType}
 use Rattle.means.specs.declared.MeanType.TheVariants.{Arithmetic, Harmonic}
-use Rattle.means.specs.Means.{Counters, whole, reciprocals, sum, mean}
-use Rattle.means.specs.Tallies.{tally, with_counter, mean_of, Within}
-use Rattle.means.proofs.Shares.{sum_most}
-
-pub counters_append : (cs ds : List ℕ) → Counters cs → Counters ds → Counters (cs ++ ds)
-counters_append [] ds C D = D
-counters_append (c ∷ cs) ds C D = (C.0, C.1, counters_append cs ds C.2 D)
+use Rattle.means.specs.Means.{whole, reciprocals, sum, mean}
+use Rattle.means.specs.Tallies.{tally, with_counter, mean_of}
 
 pub reciprocals_append : (x : Float) (cs ds : List ℕ) → reciprocals x (cs ++ ds) ≡ reciprocals (reciprocals x cs) ds
 unfolding reciprocals
@@ -30,6 +25,3 @@ pub mean_of_tally : (m : MeanType) (cs : List ℕ) → mean_of m (tally cs) ≡ 
 unfolding mean_of mean
 mean_of_tally Arithmetic cs = refl
 mean_of_tally Harmonic cs = refl
-
-pub tally_within : (most : ℕ) (cs : List ℕ) → Counters cs → length cs ≤ most → Within most (tally cs)
-tally_within most cs C h = record { few = h; small = sum_most cs C }
