@@ -11,7 +11,10 @@ fn read_full(input: &mut impl Read, buffer: &mut [u8]) -> usize
     ensures { result ≤ length buffer.new }
 {
     let mut done = 0;
-    while let Ok(n @ 1..) = input.read(&mut buffer[done..]) {
+    while done < buffer.len() {
+        let Ok(n @ 1..) = input.read(&mut buffer[done..]) else {
+            break;
+        };
         done += n;
     }
     done

@@ -101,7 +101,7 @@ impl Tally {
 
     // As `label programs: 3 of 3 cases agree, 7 runs; 2 of 2 lines that are wrong on purpose disagree`. No contract can say
     // what is printed; `rt ci` holds it to the program's file `stdout`.
-    pub fn print(self, rt: &impl Print, name: &str, parts: &str) {
+    pub(crate) fn print(self, rt: &impl Print, name: &str, parts: &str) {
         let _ = println!(rt;
             "{name}: {} of {} cases agree, {} {parts}; {} of {} lines that are wrong on purpose disagree",
             self.agree, self.cases, self.parts, self.disagree, self.wrong
