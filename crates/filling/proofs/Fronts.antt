@@ -1,5 +1,5 @@
 -- A store of which the first rows are known and the others are zero; and these first rows grown by one, which is a turn of either loop of filling.
-use Rattle.std.proofs.Common.{◌≡◌, ℕ, suc, ◌+◌, ◌-◌, ◌%◌, ◌<◌, ◌≤◌, List, [], ◌∷◌, ◌++◌, map, length, get_or, take, set, replicate, sym, ap, ◌∙◌, subst, append_assoc, append-nil, add-zero, mod-lt, add-one, arith, length-append, length-take-le, take-suc, take_at, get_or-append-add}
+use Rattle.std.proofs.Common.{◌≡◌, ℕ, suc, ◌+◌, ◌-◌, ◌%◌, ◌<◌, ◌≤◌, List, [], ◌∷◌, ◌++◌, map, length, get_or, take, set, replicate, sym, ap, ◌∙◌, subst, append_assoc, add-zero, mod-lt, add-one, arith, length-append, length-take-le, take-suc, take_at, get_or-append-add}
 use Rattle.std.proofs.lemmas.List.{map-append}
 use Rattle.std.proofs.Math.ListN.{length-map, length-replicate, get_or-append, get_or-replicate, replicate-append-replicate}
 use Rattle.std.proofs.Math.Seq.{append_snoc, set-append_seam}
@@ -25,9 +25,6 @@ module _ {s : StoreMut} {kept : ℕ} (h : Holding s kept) where
   kept_length =
       length-take-le kept (rows_lent s)
       (subst (λ (k : ℕ). kept ≤ k) (sym (length_rows s.layout.rows s.layout.words s.layout.marks s.words.now s.marks.now)) h.few)
-
-  pub kept_front : Front s.layout (take kept (rows_lent s)) (rows_lent s)
-  kept_front = record { few = omega (arith, kept_length, h.few); rows = h.rest }
 
 pub front_taken : {s : Layout} {front now : List Row} (n : ℕ) → length front ≡ n → Front s front now → take n now ≡ front
 front_taken {s} {front} n l f = ap (λ (k : List Row). take n k) f.rows ∙ take_at front (replicate (s.rows - length front) (zero_row s)) n l
@@ -76,19 +73,12 @@ front_more {s} {front} at x l h e f =
 pub with_copies_length : (kept : List Row) (draws : List ℕ) → length (with_copies kept draws) ≡ length kept + length draws
 with_copies_length kept draws = length-append kept (map (parent kept) draws) ∙ ap (λ (n : ℕ). length kept + n) (length-map draws (parent kept))
 
--- the row that a draw names stands before the copy
-pub drawn_before : (x n i : ℕ) → 0 < n → x % n < n + i
-drawn_before x n i some = omega (arith, mod-lt x some)
-
 module _ (s : Layout) (kept : List Row) (draws : List ℕ) where
   with_one_more : (i : ℕ) → i < length draws → with_copies kept (take i draws) ++ (parent kept (get_or draws i 0) ∷ []) ≡ with_copies kept (take (i + 1) draws)
   with_one_more i h =
       append_assoc kept (map (parent kept) (take i draws)) (parent kept (get_or draws i 0) ∷ [])
       ∙ ap (λ (l : List Row). kept ++ l) (sym (map-append (parent kept) (take i draws) (get_or draws i 0 ∷ [])))
       ∙ ap (λ (l : List ℕ). with_copies kept l) (sym (take-suc draws i 0 h) ∙ ap (λ (n : ℕ). take n draws) (sym (add-one i)))
-
-  pub copy_none : {now : List Row} → Front s kept now → Front s (with_copies kept (take 0 draws)) now
-  copy_none {now} f = subst (λ (k : List Row). Front s k now) (sym (append-nil kept)) f
 
   -- turn i copies the row that draw i, which is x, names
   pub copy_more : {now now' : List Row} (n i x : ℕ) → length kept ≡ n → 0 < n → i < length draws → n + i < s.rows
@@ -119,11 +109,6 @@ module _ (s : Layout) (front : List Row) (p : Program) where
       length-append front (replicate n (new_executor p s.words s.marks))
       ∙ ap (λ (k : ℕ). length front + k) (length-replicate n (new_executor p s.words s.marks))
 
-  pub new_none : {now : List Row} (from : ℕ) → Front s front now → Front s (grown (from - from)) now
-  new_none {now} from f =
-      let none : 0 ≡ from - from = omega arith in
-      subst (λ (k : List Row). Front s k now) (sym (append-nil front) ∙ ap grown none) f
-
   -- a program in the first zero row
   pub new_more : {now now' : List Row} (from r : ℕ) → length front ≡ from → from ≤ r → r < s.rows
       → now' ≡ set now r (programmed p (nth_row now r)) → Front s (grown (r - from)) now → Front s (grown (r + 1 - from)) now'
@@ -140,13 +125,3 @@ module _ (s : Layout) (front : List Row) (p : Program) where
       (append_assoc front (replicate (r - from) x) (x ∷ [])
       ∙ ap (λ (k : List Row). front ++ k) (replicate-append-replicate (r - from) 1 x ∙ ap (λ (n : ℕ). replicate n x) more))
       (front_more r x long h (e ∙ ap (λ (k : Row). set now r (programmed p k)) zero) f)
-
-  -- no zero row is left
-  pub new_all : {now : List Row} (from r : ℕ) → length front ≡ from → s.rows ≤ r → Front s (grown (r - from)) now → now ≡ grown (s.rows - from)
-  new_all from r l h f =
-      let whole : r ≡ s.rows = omega (arith, with_new_length (r - from), f.few) in
-      let none : s.rows - length (grown (r - from)) ≡ 0 = omega (arith, with_new_length (r - from)) in
-      f.rows
-      ∙ ap (λ (n : ℕ). grown (r - from) ++ replicate n (zero_row s)) none
-      ∙ append-nil (grown (r - from))
-      ∙ ap (λ (n : ℕ). grown (n - from)) whole

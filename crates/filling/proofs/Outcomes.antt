@@ -13,7 +13,7 @@ use Rattle.rounds.specs.Copies.{copies_of}
 use Rattle.rounds.specs.Rounds.{Start, stored, copies, tape_short, parent, new_row, filled}
 use Rattle.rounds.specs.Handed.{call_of, start_of, Holding}
 use Rattle.filling.specs.Filling.{filling, after_filling, filled_as, with_copies, with_new}
-use Rattle.filling.proofs.Fronts.{Front, kept_length, with_copies_length, front_taken, front_holds}
+use Rattle.filling.proofs.Fronts.{Front, kept_length, with_copies_length, front_taken}
 
 -- what the code knows before it changes a row: how many copies to make, that there is room for them, and the tape words left
 pub record Planned (s : StoreMut) (c : LentCall) (x : StartByValue) (count left : ℕ) : Type 0 where
@@ -67,9 +67,6 @@ module _ {s : StoreMut} {c : LentCall} {x : StartByValue} {count left : ℕ} (k 
       between =
           subst (λ (l : Layout). Front l (with_copies rows_kept draws) (rows_lent t)) (sym same.same_layout)
           (record { few = omega (arith, copied_length, k.room); rows = copied })
-
-      pub copied_holds : Holding t (x.kept + count)
-      copied_holds = front_holds (x.kept + count) copied_length between
 
       pub all_filled : {now : List Row}
           → now ≡ with_new t.layout (program_seen c.program) (take (x.kept + count) (rows_lent t)) (t.layout.rows - (x.kept + count))

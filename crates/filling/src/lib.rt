@@ -58,8 +58,7 @@ fn copy_executors(store: &mut StoreMut, call: Call, start: Start, count: usize)
     ensures same_store { SameStore store.old store.new }
 {
     let tape = call.tape;
-    let kept = start.kept;
-    let used = start.used;
+    let Start { kept, used } = start;
     for i in 0..count {
         let draw = tape[used + i];
         store.copy_row((draw % (kept as u64)) as usize, kept + i);

@@ -69,8 +69,12 @@ module _ {c : Call} {n i : ℕ} {s : StoreMut} {start : StartByValue} (going : G
 
     -- a round of the code's call, which is of the store as it is cut now
     module _ (asked : LentCall) (is : call_of c.store asked ≡ c) (t : StoreMut) (same : SameStore s t) where
-      of_now : {after : After} → after ≡ round_with_filling (call_of s.layout asked) (start_of s start) → after ≡ round_with_filling c (start_of s start)
-      of_now e = e ∙ ap (λ (l : Layout). round_with_filling (call_of l asked) (start_of s start)) going.cut ∙ ap (λ (k : Call). round_with_filling k (start_of s start)) is
+      of_now : {after : After} → after ≡ round_with_filling (call_of s.layout asked) (start_of s start)
+          → after ≡ round_with_filling c (start_of s start)
+      of_now e =
+          e
+          ∙ ap (λ (l : Layout). round_with_filling (call_of l asked) (start_of s start)) going.cut
+          ∙ ap (λ (k : Call). round_with_filling k (start_of s start)) is
 
       pub follows_on : (start' : StartByValue) → after_in t (Ok start') ≡ round_with_filling (call_of s.layout asked) (start_of s start)
           → Holding t start'.kept → Going c n (i + 1) t start'

@@ -1,15 +1,15 @@
 -- What a call leaves: all as found if it is refused, the rows of its search if it is accepted.
-use Rattle.std.proofs.Common.{◌≡◌, sym, ap, ◌∙◌, List, ℕ, ◌-◌, arith, replicate, Ok, Err}
+use Rattle.std.proofs.Common.{◌≡◌, sym, ap, ◌∙◌, List, ℕ, Ok, Err}
 use Rattle.loader.specs.Loading.{Program}
 use Rattle.checks.specs.declared.refusal.Refusal.{Refusal}
-use Rattle.store.specs.Store.{Fit, words_of, marks_of, zero_row}
+use Rattle.store.specs.Store.{Fit, words_of, marks_of}
 use Rattle.store.specs.Lent.{rows_lent}
 use Rattle.store.specs.declared.layout.Layout.{Layout}
 use Rattle.store.specs.declared.view.StoreMut.{StoreMut}
 use Rattle.store.proofs.Rows.{words_flat, marks_flat}
 use Rattle.rounds.specs.declared.call.Ended.{Ended}
 use Rattle.rounds.specs.Calls.{layout_of, call}
-use Rattle.rounds.specs.Handed.{Callable, Holding}
+use Rattle.rounds.specs.Handed.{Callable}
 use Rattle.rounds.specs.Rounds.{Searched, searched}
 use Rattle.options.specs.declared.RaritySimulationOptions.{RaritySimulationOptions}
 use Rattle.search.specs.Searching.{searched_as}
@@ -41,8 +41,3 @@ left_in s x e h =
     let flat-words = sym (words_flat n.rows n.words n.marks s.words.now s.marks.now s.fit.all_words) ∙ ap words_of h.1 in
     let flat-marks = sym (marks_flat n.rows n.words n.marks s.words.now s.marks.now s.fit.all_marks) ∙ ap marks_of h.1 in
     rw (flat-words, flat-marks, h.0)
-
--- a store that was zeroed from row 0 on
-pub zeroed : (s : StoreMut) (before : Layout) → s.layout ≡ before → rows_lent s ≡ replicate (before.rows - 0) (zero_row before) → Holding s 0
-zeroed s before same e =
-    record { few = omega arith; rest = e ∙ ap (λ (l : Layout). replicate (l.rows - 0) (zero_row l)) (sym same) }

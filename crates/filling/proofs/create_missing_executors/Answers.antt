@@ -4,7 +4,8 @@ use Rattle.filling.proofs.create_missing_executors.Goals as goal
 pub returns-then-saturating_sub-count-clause-filled : goal.returns-then-saturating_sub-count-clause-filled
 returns-then-saturating_sub-count-clause-filled c =
     let n = c.count_copies-count.ensures in
-    short_of_tape {c = c.args.call} (record { holds = c.requires.holding; counted = n.value; room = n.within; remaining = c.saturating_sub.ensures }) c.if-saturating_sub-count.true
+    short_of_tape {c = c.args.call}
+    (record { holds = c.requires.holding; counted = n.value; room = n.within; remaining = c.saturating_sub.ensures }) c.if-saturating_sub-count.true
 
 pub returns-clause-filled : goal.returns-clause-filled
 returns-clause-filled c =

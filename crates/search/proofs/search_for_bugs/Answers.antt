@@ -43,7 +43,8 @@ returns-in_err-check_call-clause-result_after c =
     let p = program_seen a.program in
     let e = err_from_is_err_and c.from_residual.result c.from_residual.ensures.1 in
     rw (e.1, e.2)
-    (left_refused a.options a.log p a.tape.now a.words.now a.marks.now _ (checked_as a.options a.log p a.words.now a.marks.now c.check_call.ensures c.in_err-check_call.was))
+    (left_refused a.options a.log p a.tape.now a.words.now a.marks.now _
+    (checked_as a.options a.log p a.words.now a.marks.now c.check_call.ensures c.in_err-check_call.was))
 
 pub returns-in_err-check_call-clause-demanded : goal.returns-in_err-check_call-clause-demanded
 returns-in_err-check_call-clause-demanded c =

@@ -6,9 +6,6 @@ use Rattle.search.proofs.search_rounds.Goals as goal
 pub loop-round-init : goal.loop-round-init
 loop-round-init c = record { same_store = search rules; going = begins _ _ _ refl c.requires.holding }
 
-pub round-requires-clause-callable : goal.round-requires-clause-callable
-round-requires-clause-callable c = rw c.loop-round.invariant.same_store.same_layout c.requires.callable
-
 pub round-requires-clause-limits_allow : goal.round-requires-clause-limits_allow
 round-requires-clause-limits_allow c = going_limits c.loop-round.invariant.going c.loop-round-test.true (omega arith) (omega arith)
 

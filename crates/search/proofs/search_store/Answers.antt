@@ -1,13 +1,5 @@
-use Rattle.search.proofs.Leaving.{zeroed, left_in}
+use Rattle.search.proofs.Leaving.{left_in}
 use Rattle.search.proofs.search_store.Goals as goal
-
-pub search_rounds-requires-clause-holding : goal.search_rounds-requires-clause-holding
-search_rounds-requires-clause-holding c =
-    let z = c.zero_rows.ensures in
-    zeroed _ _ z.same_store.same_layout z.rows_after
-
-pub search_rounds-requires-clause-callable : goal.search_rounds-requires-clause-callable
-search_rounds-requires-clause-callable c = rw c.zero_rows.ensures.same_store.same_layout c.requires.callable
 
 pub returns-clause-left_after : goal.returns-clause-left_after
 returns-clause-left_after c =
