@@ -1,7 +1,6 @@
 -- What was printed, under another name of its text.
 use Rattle.std.proofs.Common.{◌≡◌, sym, ap, ◌∙◌, List, [], ℕ, Result, Ok, Err}
 use Rattle.answers.specs.Answers.{refused_answer}
-use Rattle.answers.specs.declared.answer.Answer.{Answer}
 use Rattle.lines.specs.Lines.{lines}
 use Rattle.sheet.specs.Sheets.{parsed, bench_limits, sheet_number}
 use Rattle.sheet.specs.declared.limits.Limits.{Limits}
@@ -12,9 +11,6 @@ use Rattle.report.specs.Printing.{Printed}
 
 pub printed_as : {text text' out out' : List ℕ} {count : ℕ} → text ≡ text' → Printed text out out' count → Printed text' out out' count
 printed_as e p = rw e at p
-
-pub told_lines : {a b : Answer} {inputs told : List ℕ} → a ≡ b → inputs ≡ told → lines a inputs ≡ lines b told
-told_lines e f = rw (e, f)
 
 -- what a sheet is, by the code's limits and parse
 module _ (s : List ℕ) {l : Limits} {p : Result Sheet SheetError} (bench : l ≡ bench_limits) (parse : p ≡ parsed l s) where
