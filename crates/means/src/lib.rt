@@ -5,11 +5,11 @@
 ghost use Rattle.std.specs.Prelude.{◌≡◌, [], ◌≤◌, ◌-◌};
 ghost use Rattle.means.specs.Tallies.{tally, with_counter, mean_of, Within, most_counters};
 
-// The two means.
+// The two means, each with its number.
 #[derive(Clone, Copy)]
 pub enum MeanType {
-    Arithmetic,
-    Harmonic,
+    Arithmetic = 0,
+    Harmonic = 1,
 }
 
 // The sum of the reciprocals of some counters, in list order, their sum, and how many they are.

@@ -70,10 +70,7 @@ pub fn mean_number(mean: MeanType) -> u64
     ensures value { result ≡ mean_number mean }
     ensures upper_bound { result ≤ 1 }
 {
-    match mean {
-        MeanType::Arithmetic => 0,
-        MeanType::Harmonic => 1,
-    }
+    mean as u64
 }
 
 // The mean of a number, which is at most 1.
