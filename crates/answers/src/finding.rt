@@ -1,8 +1,8 @@
 // What a search comes to (the Rust's Result<Option<Bug>, RaritySimulationError>).
 ghost use Rattle.std.specs.Prelude.{◌≡◌};
-ghost use Rattle.answers.specs.Findings.{in_row, in_no_row, finding_answer};
+ghost use Rattle.answers.specs.Findings.{in_row, finding_answer};
 
-use crate::answer::Answer;
+use crate::answer::{Answer, in_no_row};
 use crate::bug::Bug;
 use crate::error::ExecutorError;
 use crate::outcome::Outcome;
@@ -38,18 +38,6 @@ fn in_row(outcome: Outcome, row: usize, pc: u64, used: usize) -> Answer
         row: row as u64,
         pc,
         value: outcome.value(),
-        used: used as u64,
-    }
-}
-
-fn in_no_row(number: u64, used: usize) -> Answer
-    ensures { result ≡ in_no_row number used }
-{
-    Answer {
-        number,
-        row: 0,
-        pc: 0,
-        value: 0,
         used: used as u64,
     }
 }
