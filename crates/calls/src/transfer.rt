@@ -73,10 +73,7 @@ fn buffer_and_size(reasons: Reasons, a1: Value, a2: Value, memory: u64) -> Resul
 fn is_file(fd: u64, a0: Value) -> bool
     ensures { result ≡ is_file fd a0 }
 {
-    match a0 {
-        Value::Concrete(n) => n == fd,
-        Value::Uninitialized => false,
-    }
+    a0 == Value::Concrete(fd)
 }
 
 // The buffer that a0, a1 and a2 name for a call on the file fd.

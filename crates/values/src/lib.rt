@@ -5,7 +5,7 @@ ghost use Rattle.std.specs.Prelude.{◌≡◌, ◌<◌, length};
 ghost use Rattle.values.specs.Values.{value_at, byte_of, RegisterFile};
 
 // What a register or a memory word holds.
-#[derive(Clone, Copy)]
+#[derive(Clone, Copy, PartialEq)]
 pub enum Value {
     Concrete(u64),
     // Nobody wrote it.
