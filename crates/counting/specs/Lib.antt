@@ -1,3 +1,4 @@
 pub mod Cells
 pub mod Counters
 pub mod Probes
+pub mod Lent

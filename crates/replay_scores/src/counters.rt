@@ -3,6 +3,7 @@ ghost use Rattle.std.specs.Prelude.{◌+◌, ◌≤◌};
 
 use crate::columns::{LOG, MEMORY, ROWS, TRIPLE};
 use counting::counter::counter;
+use counting::taking::Taking;
 use replay_lists::columns::number_at;
 use rows::row::REGISTERS;
 use store::layout::Layout;
@@ -41,7 +42,11 @@ fn is_counter(store: StoreRef, counted: &[u64]) -> bool
         return false;
     };
     let flags = [true; MOST_ROWS];
-    counter(store, &flags[..store.layout.rows], cell, byte) == number_at(counted, COUNTER)
+    let all = Taking {
+        store,
+        flags: &flags[..store.layout.rows],
+    };
+    counter(all, cell, byte) == number_at(counted, COUNTER)
 }
 
 // Whether all counters of the line are so; words and marks must be those of the line's rows and no more.

@@ -10,6 +10,7 @@ ghost use Rattle.running.specs.Running.{LimitsAllow};
 ghost use Rattle.round.specs.After.{round_with_filling, after_in, Ready};
 
 use answers::finding::Finding;
+use counting::taking::Taking;
 use filling::create_missing_executors;
 use options::RaritySimulationOptions;
 use rarity::{are_ordered, score_rows};
@@ -34,7 +35,11 @@ fn keep_rarest(
 {
     let n = store.layout.rows;
     let mut scores = [0.0; MOST_ROWS];
-    score_rows(store.view(), running, options.mean, &mut scores[0..n]);
+    let rows = Taking {
+        store: store.view(),
+        flags: running,
+    };
+    score_rows(rows, options.mean, &mut scores[0..n]);
     if !are_ordered(&scores[0..n]) {
         return Err(Ended {
             finding: Finding::ScoresUnordered,

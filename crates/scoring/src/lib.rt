@@ -14,6 +14,7 @@ use checks::refusal::{
     Refusal, are_lengths, is_amount_of_states, is_log_size, is_memory_size, test,
 };
 use checks::valid_row::valid_row;
+use counting::taking::Taking;
 use means::MeanType;
 use rarity::{are_ordered, score_rows};
 use rows::limits::MOST_ROWS;
@@ -93,7 +94,11 @@ fn score_store(store: StoreRef, mean: MeanType, scores: &mut [f64]) -> Result<()
     let n = store.layout.rows;
     let flags = [true; MOST_ROWS];
     let mut computed = [0.0; MOST_ROWS];
-    score_rows(store, &flags[0..n], mean, &mut computed[0..n]);
+    let all = Taking {
+        store,
+        flags: &flags[0..n],
+    };
+    score_rows(all, mean, &mut computed[0..n]);
     if !are_ordered(&computed[0..n]) {
         return Err(ScoringError::ScoresUnordered);
     }

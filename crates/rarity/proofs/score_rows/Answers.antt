@@ -4,7 +4,7 @@ use Rattle.means.specs.Means.{whole}
 use Rattle.store.proofs.Rows.{length_rows}
 use Rattle.rarity.proofs.Turns.{score_taking, score_zero, scores_end}
 use Rattle.rarity.proofs.score_rows.Goals as goal
-use Rattle.rarity.proofs.score_rows.Goals.{then-flags-r, else-flags-r}
+use Rattle.rarity.proofs.score_rows.Goals.{then-rows-r, else-rows-r}
 
 float_zero : of_bits binary64 0 ≡ whole 0
 unfolding of_int of_bits
@@ -12,16 +12,16 @@ float_zero = refl
 
 pub loop-r-preserved : goal.loop-r-preserved
 loop-r-preserved c =
-    let a = c.requires.a_flag_each in
+    let a = c.args.rows.a_flag_each in
     let h = c.loop-r.invariant.written in
     let l = c.loop-r-test.true in
     record {
       written =
-          elim c.if-flags-r.branch [
-            | then-flags-r w ↦ score_taking a (length_rows _ _ _ _ _) h l w.if-flags-r.true w.score_row.ensures (ap (set _ _) w.scores-is)
-            | else-flags-r w ↦ score_zero a (length_rows _ _ _ _ _) h l w.if-flags-r.false float_zero (ap (set _ _) w.scores-is)
+          elim c.if-rows-r.branch [
+            | then-rows-r w ↦ score_taking a (length_rows _ _ _ _ _) h l w.if-rows-r.true w.score_row.ensures (ap (set _ _) w.scores-is)
+            | else-rows-r w ↦ score_zero a (length_rows _ _ _ _ _) h l w.if-rows-r.false float_zero (ap (set _ _) w.scores-is)
           ];
     }
 
 pub returns : goal.returns
-returns c = scores_end c.requires.a_flag_each (length_rows _ _ _ _ _) c.loop-r.invariant.written c.loop-r-test.false
+returns c = scores_end c.args.rows.a_flag_each (length_rows _ _ _ _ _) c.loop-r.invariant.written c.loop-r-test.false

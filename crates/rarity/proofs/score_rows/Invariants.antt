@@ -4,5 +4,5 @@ use Rattle.rarity.proofs.score_rows.Given as goal
 
 abbrev pub invariant-loop-r : goal.invariant-loop-r
 invariant-loop-r l = record {
-  written : Written l.mean l.flags (rows_seen l.store) l.store.layout.rows l.r l.scores;
+  written : Written l.mean l.rows.flags.now (rows_seen l.rows.store) l.rows.store.layout.rows l.r l.scores;
 }

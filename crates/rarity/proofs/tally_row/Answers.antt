@@ -25,7 +25,7 @@ pub returns-after-place_at-clause-value : goal.returns-after-place_at-clause-val
 returns-after-place_at-clause-value c =
     let d = c.place_at.ensures ∙ ap (λ (z : Row). place_at z c.loop-place.place) c.row-row.ensures.value in
     let h = c.loop-place.invariant.counted in
-    let n = marks_in_row c.args.store.fit c.args.r c.requires.row in
+    let n = marks_in_row c.args.rows.store.fit c.args.r c.requires.row in
     elim c.match-place_at.branch [
       | in-Concrete w ↦
           (places_end (place_turn d h _ w.in-Concrete.is w.tally_word-t.ensures.taken w.tally_word-t.ensures.small w.t-is) (omega (arith, n)) (omega (arith, n))).0
