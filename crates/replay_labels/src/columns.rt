@@ -25,7 +25,6 @@ const MOST_RUNS: usize = 3;
 
 // The program of a line that has the lengths that it says, and just so many numbers. What follows the tape are the runs.
 pub(crate) fn program_of(numbers: &[u64]) -> Option<Program<'_>> {
-    let program = Program::at(numbers, PROGRAM, CODE)?;
     let runs = length_at(numbers, RUNS, MOST_RUNS)?;
-    (program.rest.len() == runs * RUN_COLUMNS).then_some(program)
+    Program::at(numbers, PROGRAM, CODE, runs * RUN_COLUMNS)
 }

@@ -14,12 +14,7 @@ fn create(numbers: &[u64], program: &Program, words: &mut [u64], marks: &mut [u8
         &mut marks[..sizes.marks],
         sizes.memory,
         sizes.log,
-        loader::Program::new(
-            program.code_address,
-            program.code.as_slice(),
-            program.data_address,
-            program.data.as_slice(),
-        ),
+        program.lent(),
     );
     Some(checked_number(checked))
 }

@@ -1,5 +1,7 @@
 // The program of a line, and what it reads: columns that say how long its parts are, and the words of these parts.
 ghost use Rattle.std.specs.Prelude.{◌≡◌, ◌+◌, ◌≤◌, ◌++◌, length, take, drop, IfSome};
+ghost use Rattle.loader.specs.Loading.{image};
+ghost use Rattle.loader.specs.Lent.{program_seen};
 ghost use Rattle.replay_lists.specs.Columns.{number_at, words_for, words_end, bytes_at};
 
 use crate::columns::{MOST_BYTES, bytes_at, length_at, number_at, words_of};
@@ -54,9 +56,9 @@ impl Bytes {
 }
 
 impl<'a> Program<'a> {
-    // The program whose columns begin at `at`, and whose words begin at `start`. None if a length is above the most, or the line too
-    // short for it.
-    pub fn at(numbers: &'a [u64], at: usize, start: usize) -> Option<Program<'a>>
+    // The program whose columns begin at `at`, and whose words begin at `start`, with so many numbers after its tape. None if a length
+    // is above the most, or the line does not have just these numbers.
+    pub fn at(numbers: &'a [u64], at: usize, start: usize, more: usize) -> Option<Program<'a>>
         requires { (at ≤ 100) × (start ≤ 100) }
         ensures code_room { IfSome result (λ p. p.code.room ≡ bytes_at 512 numbers.now start) }
         ensures code_length { IfSome result (λ p. p.code.length ≡ number_at numbers.now (at + 1)) }
@@ -66,12 +68,16 @@ impl<'a> Program<'a> {
         ensures data_address { IfSome result (λ p. p.data_address ≡ number_at numbers.now (at + 2)) }
         ensures tape { IfSome result (λ p. p.tape.now ++ p.rest.now ≡ drop (words_end start p.code.length p.«data».length) numbers.now) }
         ensures tape_words { IfSome result (λ p. length p.tape.now ≡ number_at numbers.now (at + 4)) }
+        ensures rest_words { IfSome result (λ p. length p.rest.now ≡ more) }
     {
         let code = Bytes::at(numbers, at + CODE_LENGTH, start)?;
         let data_start = start + words_of(code.length);
         let data = Bytes::at(numbers, at + DATA_LENGTH, data_start)?;
         let (_, tape) = numbers.split_at_checked(data_start + words_of(data.length))?;
         let (tape, rest) = tape.split_at_checked(number_at(numbers, at + TAPE_WORDS) as usize)?;
+        if rest.len() != more {
+            return None;
+        }
         Some(Program {
             code_address: number_at(numbers, at),
             code,
@@ -80,5 +86,19 @@ impl<'a> Program<'a> {
             tape,
             rest,
         })
+    }
+
+    // Code and data, lent to be loaded.
+    pub fn lent(&self) -> loader::Program<'_>
+        ensures { program_seen result ≡ image
+            self.now.code_address (take self.now.code.length self.now.code.room)
+            self.now.data_address (take self.now.«data».length self.now.«data».room) }
+    {
+        loader::Program::new(
+            self.code_address,
+            self.code.as_slice(),
+            self.data_address,
+            self.data.as_slice(),
+        )
     }
 }

@@ -24,6 +24,5 @@ pub(crate) const MOST_NUMBERS: usize = 192;
 
 // The program of a line that has the lengths that it says, and just so many numbers. Its tape is the input.
 pub(crate) fn program_of(numbers: &[u64]) -> Option<Program<'_>> {
-    let program = Program::at(numbers, PROGRAM, CODE)?;
-    program.rest.is_empty().then_some(program)
+    Program::at(numbers, PROGRAM, CODE, 0)
 }

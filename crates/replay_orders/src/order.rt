@@ -29,12 +29,7 @@ pub(crate) fn print(
         sizes.memory,
         sizes.log,
         step,
-        loader::Program::new(
-            program.code_address,
-            program.code.as_slice(),
-            program.data_address,
-            program.data.as_slice(),
-        ),
+        program.lent(),
         program.tape,
         &mut output[..lent_output],
     ))

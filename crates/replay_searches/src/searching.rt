@@ -21,12 +21,7 @@ pub(crate) fn search_line(
         &mut marks[..lent_marks],
         asked,
         number_at(numbers, LOG),
-        loader::Program::new(
-            program.code_address,
-            program.code.as_slice(),
-            program.data_address,
-            program.data.as_slice(),
-        ),
+        program.lent(),
         program.tape,
     );
     Some(search_answer(searched))
