@@ -5,14 +5,14 @@ ghost use Rattle.std.specs.Prelude.{◌≡◌, ◌≤◌, length};
 ghost use Rattle.rows.specs.Rows.{row};
 ghost use Rattle.loader.specs.Loading.{image};
 ghost use Rattle.checks.specs.Refusals.{checked_number};
-ghost use Rattle.executor.specs.Entries.{creation_checked};
+ghost use Rattle.executor.specs.Entries.{creation_checked, run_answer};
 ghost use Rattle.options.specs.Defaults.{default_options};
 ghost use Rattle.options.specs.Means.{mean_numbered};
 ghost use Rattle.tavvinur.specs.Flat.{options_of, flat_of};
 ghost use Rattle.scoring.specs.Entry.{ScoresBounded};
 ghost use Rattle.search.specs.Entry.{Demanded};
 ghost use Rattle.tavvinur.specs.Flat.{left, creation_left, run_left, search_left, scores_with, score_left, AlwaysScored};
-ghost use Rattle.tavvinur.specs.Printing.{printed_left, program_left, OneRun};
+ghost use Rattle.tavvinur.specs.Printing.{flat_printed, printed_left, program_left, OneRun};
 
 use answers::answer::Answer;
 use checks::refusal::checked_number;
@@ -78,6 +78,21 @@ impl From<RaritySimulationOptions> for Options {
             iterations: options.iterations,
             mean: mean_number(options.mean) as u32,
             copy_init_ratio: options.copy_init_ratio,
+        }
+    }
+}
+
+impl From<runner::Printed> for Printed {
+    ghost from_gives = { λ printed flat. flat ≡ flat_printed (run_answer printed.answer) printed.written };
+
+    fn from(printed: runner::Printed) -> Printed {
+        let answer = run_answer(printed.answer);
+        Printed {
+            number: answer.number,
+            pc: answer.pc,
+            value: answer.value,
+            used: answer.used,
+            written: printed.written as u64,
         }
     }
 }
@@ -151,15 +166,7 @@ pub extern "C" fn tavvinur_run_program(
     ensures written_in_bounds { result.written ≤ length output.old }
 {
     let program = Program::new(code_address, code, data_address, data);
-    let printed = runner::run_program(words, marks, memory, log, step, program, input, output);
-    let answer = run_answer(printed.answer);
-    Printed {
-        number: answer.number,
-        pc: answer.pc,
-        value: answer.value,
-        used: answer.used,
-        written: printed.written as u64,
-    }
+    Printed::from(runner::run_program(words, marks, memory, log, step, program, input, output))
 }
 
 // Scores the rows of a lent store among themselves, one score a row; 0, or the number that tells why not.
