@@ -5,7 +5,8 @@ use crate::line::Line;
 use std::fs::File;
 use std::os::unix::fs::FileExt;
 
-const PART_BYTES: usize = 4096;
+// How many bytes of a file are read at once.
+pub const PART_BYTES: usize = 4096;
 
 // Far more than any list has: where reading stops if a file has no end.
 pub const MOST_BYTES: usize = 0x1_0000_0000;
@@ -44,16 +45,16 @@ fn with_bytes(before: Line, numbers: &mut [u64], text: &[u8]) -> Part
     }
 }
 
-// The bytes of the file from a place on, as many as are there or fit. A failed read is taken for the end of the file.
-fn with_part(file: &File, at: usize, before: Line, numbers: &mut [u64]) -> Part
-    ensures { result.taken ≤ 4096 }
+// The bytes of the file from a place on, as many as are there or fit. A failed read is taken for the end of the file. What a file
+// holds no contract can say.
+pub fn read_part<'a>(file: &File, at: usize, room: &'a mut [u8; PART_BYTES]) -> &'a [u8]
+    ensures { length result.now ≤ 4096 }
 {
-    let mut text = [0; PART_BYTES];
-    let bytes = file.read_at(&mut text, at as u64).unwrap_or(0);
-    with_bytes(before, numbers, &text[..bytes])
+    let bytes = file.read_at(room, at as u64).unwrap_or(0);
+    &room[..bytes]
 }
 
-// The numbers of the line from a place on, and none at the end of the file. What a file holds no contract can say.
+// The numbers of the line from a place on, and none at the end of the file.
 pub fn read_line(file: &File, from: usize, numbers: &mut [u64]) -> Option<Read>
     ensures moves_on { IfSome result (λ r. (from < r.next) × (from < 0x1_0000_0000)) }
     ensures count { IfSome result (λ r. r.count ≤ length numbers.old) }
@@ -64,7 +65,7 @@ pub fn read_line(file: &File, from: usize, numbers: &mut [u64]) -> Option<Read>
     let mut line = Line::new();
     let mut at = from;
     while at < MOST_BYTES && !line.has_ended() {
-        let part = with_part(file, at, line, numbers);
+        let part = with_bytes(line, numbers, read_part(file, at, &mut [0; PART_BYTES]));
         line = part.line;
         if part.taken == 0 {
             break;

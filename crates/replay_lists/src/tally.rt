@@ -11,7 +11,7 @@ pub struct Judged {
 }
 
 // What came of the lines so far. A count stops at the largest number, which no list reaches.
-#[derive(Clone, Copy)]
+#[derive(Clone, Copy, Default)]
 pub struct Tally {
     pub cases: u64,
     pub agree: u64,
@@ -36,13 +36,7 @@ impl Tally {
     pub fn new() -> Tally
         ensures { result ≡ nothing }
     {
-        Tally {
-            cases: 0,
-            agree: 0,
-            parts: 0,
-            wrong: 0,
-            disagree: 0,
-        }
+        Tally::default()
     }
 
     #[tactic(auto, unfolding(crate::specs::Tallies::plus, crate::specs::Tallies::one_if))]

@@ -35,7 +35,7 @@ fn r_fields(form: u64, t: RType) -> Fields {
         rd: t.rd,
         rs1: t.rs1,
         rs2: t.rs2,
-        imm: 0,
+        ..Fields::default()
     }
 }
 
@@ -44,28 +44,28 @@ fn i_fields(form: u64, t: IType) -> Fields {
         form,
         rd: t.rd,
         rs1: t.rs1,
-        rs2: 0,
         imm: t.imm,
+        ..Fields::default()
     }
 }
 
 fn s_fields(form: u64, t: SType) -> Fields {
     Fields {
         form,
-        rd: 0,
         rs1: t.rs1,
         rs2: t.rs2,
         imm: t.imm,
+        ..Fields::default()
     }
 }
 
 fn b_fields(form: u64, t: BType) -> Fields {
     Fields {
         form,
-        rd: 0,
         rs1: t.rs1,
         rs2: t.rs2,
         imm: imm_b(t.word),
+        ..Fields::default()
     }
 }
 
@@ -74,9 +74,8 @@ fn rd_fields(form: u64, rd: usize, imm: u64) -> Fields {
     Fields {
         form,
         rd,
-        rs1: 0,
-        rs2: 0,
         imm,
+        ..Fields::default()
     }
 }
 

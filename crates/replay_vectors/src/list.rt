@@ -2,12 +2,9 @@
 ghost use Rattle.std.specs.Prelude.{◌≤◌, length};
 
 use crate::tally::{Tally, Verdict};
-use replay_lists::reader::{MOST_BYTES, WRONG};
+use replay_lists::reader::{MOST_BYTES, PART_BYTES, WRONG, read_part};
 use std::fs::File;
-use std::os::unix::fs::FileExt;
 use std::rt::Files;
-
-const PART_BYTES: usize = 4096;
 
 // What was counted up to the end of a part of a list, and how many bytes of the part that took.
 #[derive(Clone, Copy)]
@@ -58,22 +55,6 @@ fn replay_lines<R: Print, F: Fn(&[u8]) -> Verdict>(
     }
 }
 
-// A failed read is taken for the end of the file.
-fn replay_part<R: Print, F: Fn(&[u8]) -> Verdict>(
-    rt: &R,
-    file: &File,
-    at: usize,
-    judge: F,
-    before: Tally,
-) -> Progress
-    requires { F.IsAlwaysCallable judge }
-    ensures { result.used ≤ 4096 }
-{
-    let mut text = [0; PART_BYTES];
-    let bytes = file.read_at(&mut text, at as u64).unwrap_or(0);
-    replay_lines(rt, &text[..bytes], judge, before)
-}
-
 // Replays the list of this name. One that is missing is told, and has no lines.
 pub(crate) fn replay<R: Files<File = File> + Print, F: Fn(&[u8]) -> Verdict>(
     rt: &R,
@@ -82,14 +63,15 @@ pub(crate) fn replay<R: Files<File = File> + Print, F: Fn(&[u8]) -> Verdict>(
 ) -> Tally
     requires { F.IsAlwaysCallable judge }
 {
-    let mut tally = Tally::new();
+    let mut tally = Tally::default();
     let Ok(file) = File::open(rt, name) else {
         let _ = println!(rt; "{name}: cannot be opened");
         return tally;
     };
     let mut at = 0;
     while at < MOST_BYTES {
-        let progress = replay_part(rt, &file, at, &judge, tally);
+        let room = &mut [0; PART_BYTES];
+        let progress = replay_lines(rt, read_part(&file, at, room), &judge, tally);
         tally = progress.tally;
         if progress.used == 0 {
             break;

@@ -17,7 +17,8 @@ pub(crate) enum Verdict {
     Departs(Departure),
 }
 
-#[derive(Clone, Copy)]
+// What came of the lines so far: at the start, of none.
+#[derive(Clone, Copy, Default)]
 pub(crate) struct Tally {
     // their parts are the departures
     pub(crate) lines: replay_lists::tally::Tally,
@@ -36,16 +37,6 @@ impl Verdict {
 }
 
 impl Tally {
-    // Of no lines.
-    pub(crate) fn new() -> Tally {
-        Tally {
-            lines: replay_lists::tally::Tally::new(),
-            lui: 0,
-            jalr: 0,
-            zero_divisors: 0,
-        }
-    }
-
     fn with_departure(mut self, departure: Departure) -> Tally {
         let count = match departure {
             Departure::Lui => &mut self.lui,
