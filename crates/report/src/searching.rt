@@ -27,14 +27,10 @@ fn search_with(
     ensures { left words.new marks.new result
         ≡ search_entry asked.options asked.log (image_of sheet.now asked) tape.now words.old marks.old }
 {
-    let code = asked.code;
-    let data = asked.data;
-    let program = Program::new(
-        code.address,
-        &sheet[code.offset..code.offset + code.length],
-        data.address,
-        &sheet[data.offset..data.offset + data.length],
-    );
+    let program = Program {
+        code: asked.code.lent(sheet),
+        data: asked.data.lent(sheet),
+    };
     search_for_bugs(words, marks, asked.options, asked.log, program, tape)
 }
 

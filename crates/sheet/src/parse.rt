@@ -1,9 +1,12 @@
 // From a sheet's bytes to what they ask for, or the number that refuses them.
-ghost use Rattle.std.specs.Prelude.{◌≡◌, ◌+◌, ◌*◌, ◌^◌, ◌<◌, ltb};
-ghost use Rattle.sheet.specs.Sheets.{parsed, fields_parsed, part_past, above_limit, sheet_of, sheet_number};
+ghost use Rattle.std.specs.Prelude.{◌≡◌, ◌+◌, ◌*◌, ◌^◌, ◌<◌, ◌≤◌, ltb, length};
+ghost use Rattle.loader.specs.Loading.{segment};
+ghost use Rattle.loader.specs.Lent.{segment_seen};
+ghost use Rattle.sheet.specs.Sheets.{parsed, fields_parsed, part_past, above_limit, sheet_of, sheet_number, part_of};
 
 use crate::fields::{FIELDS_LENGTH, Fields};
 use crate::limits::Limits;
+use loader::Segment;
 use options::{RaritySimulationOptions, mean_numbered};
 use std::num::f64_from_bits_with_nan;
 
@@ -24,6 +27,19 @@ pub struct Sheet {
     pub data: Part,
     pub tape_offset: usize,
     pub tape_words: usize,
+}
+
+impl Part {
+    // These bytes, lent to be loaded.
+    pub fn lent<'a>(&self, sheet: &'a [u8]) -> Segment<'a>
+        requires { self.now.offset + self.now.length ≤ length sheet.now }
+        ensures { segment_seen result ≡ segment self.now.address (part_of sheet.now self.now) }
+    {
+        Segment {
+            address: self.address,
+            bytes: &sheet[self.offset..self.offset + self.length],
+        }
+    }
 }
 
 // Why some bytes are no sheet that the program takes, each with its number.
