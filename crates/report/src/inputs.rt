@@ -1,48 +1,37 @@
-// Where the inputs that an answer tells stand in the words of its store: the logged words of the row that met a bug.
-ghost use Rattle.std.specs.Prelude.{◌<◌};
-ghost use Rattle.report.specs.Reports.{told_inputs};
-ghost use Rattle.report.specs.Printing.{Lent, Told, log_at};
+// The inputs that an answer tells: the logged words of the row that met a bug.
+ghost use Rattle.std.specs.Prelude.{◌≡◌, ◌+◌, ◌≤◌, length};
+ghost use Rattle.rows.specs.Rows.{header, log_room};
+ghost use Rattle.rows.specs.Lent.{seen};
+ghost use Rattle.store.specs.Lent.{rows_seen};
+ghost use Rattle.sheet.specs.Sheets.{bench_limits};
+ghost use Rattle.report.specs.Reports.{log_of, inputs_of};
 
 use answers::finding::Finding;
-use checks::refusal::Refusal;
-use rounds::call::Ended;
-use rows::row::{HEADER, LOG_COUNT};
-use store::layout::Layout;
+use rows::row::{HEADER, LOG_COUNT, RowRef};
+use store::view::StoreRef;
 
-// The words of a store whose rows have a header and at most as many log words as a sheet may ask for.
-#[derive(Clone, Copy)]
-pub(crate) struct StoreWords<'a> {
-    pub(crate) store: Layout,
-    pub(crate) words: &'a [u64],
-    ghost lent: { Lent store words.now },
+// A row's log. Its count is never above its room, but no law of that is needed: the words end there.
+fn log(row: RowRef<'_>) -> &[u64]
+    ensures value { result.now ≡ log_of (seen row.entry) }
+    ensures within { length result.now ≤ log_room (seen row.entry) }
+{
+    let log = &row.words[HEADER + row.marks.len()..];
+    let count = row.words[LOG_COUNT] as usize;
+    &log[..count.min(log.len())]
 }
 
-impl<'a> StoreWords<'a> {
-    // A row's log. Its count is never above its room, but no law of that is needed: the words end there.
-    fn log(self, row: usize) -> &'a [u64]
-        requires { row < self.store.rows }
-        ensures { Told self.entry.store self.entry.words.now (log_at row) result.now }
-    {
-        let at = row * self.store.words;
-        let room = &self.words[at + HEADER + self.store.marks..at + self.store.words];
-        let count = self.words[at + LOG_COUNT] as usize;
-        &room[..count.min(room.len())]
-    }
-
-    // The inputs that an answer tells.
-    pub(crate) fn told(self, answer: Result<Ended, Refusal>) -> &'a [u64]
-        ensures { Told self.entry.store self.entry.words.now (told_inputs answer) result.now }
-    {
-        let Ok(ended) = answer else {
-            return &[];
-        };
-        let Finding::Found { row, .. } = ended.finding else {
-            return &[];
-        };
-        if row < self.store.rows {
-            self.log(row)
-        } else {
-            &[]
-        }
+// The inputs that are told of what a search came to, from a store whose rows have at most as many log words as a sheet may ask for.
+pub(crate) fn told(store: StoreRef<'_>, finding: Finding) -> &[u64]
+    requires { store.layout.words ≤ store.layout.marks + header + bench_limits.log }
+    ensures value { result.now ≡ inputs_of finding (rows_seen store.entry) }
+    ensures few { length result.now ≤ bench_limits.log }
+{
+    let Finding::Found { row, .. } = finding else {
+        return &[];
+    };
+    if row < store.layout.rows {
+        log(store.row(row))
+    } else {
+        &[]
     }
 }

@@ -2,12 +2,13 @@
 // caller.
 #![tactic(auto)]
 
-ghost use Rattle.std.specs.Prelude.{◌≡◌, Ok, List, [], ℕ, ◌*◌, ◌≤◌, length, take};
+ghost use Rattle.std.specs.Prelude.{◌≡◌, Ok, [], ◌+◌, ◌≤◌, length, take};
 ghost use Rattle.answers.specs.Answers.{refused_answer};
 ghost use Rattle.writing.specs.Written.{written};
 ghost use Rattle.lines.specs.Lines.{lines};
-ghost use Rattle.sheet.specs.Sheets.{parsed, bench_limits, sheet_number};
-ghost use Rattle.store.specs.Store.{rows_of};
+ghost use Rattle.rows.specs.Rows.{header};
+ghost use Rattle.store.specs.Lent.{rows_seen};
+ghost use Rattle.sheet.specs.Sheets.{parsed, bench_limits};
 ghost use Rattle.report.specs.Reports.{sheet_buffer, most_printed, printed, search_printed};
 ghost use Rattle.report.specs.Printing.{Printed, answer_lines};
 
@@ -15,16 +16,15 @@ mod inputs;
 mod searching;
 
 use answers::answer::Answer;
-use checks::refusal::Refusal;
-use inputs::StoreWords;
+use inputs::told;
 use lines::write_lines;
 use rounds::call::Ended;
 use rows::row::{HEADER, REGISTERS};
-use search::answer::search_answer;
 use searching::search_sheet;
 use sheet::limits::{Limits, MOST_LOG, MOST_MEMORY, MOST_SHEET, MOST_STATES};
-use sheet::parse::{Sheet, SheetError, parse};
+use sheet::parse::{Sheet, parse};
 use store::layout::Layout;
+use store::view::StoreRef;
 
 // A buffer for a sheet has one byte more than a sheet may have, so that a longer one is seen.
 pub const SHEET_BUFFER: usize = MOST_SHEET + 1;
@@ -40,22 +40,23 @@ const MOST_WORDS: usize = MOST_STATES * (HEADER + ROW_MARKS + MOST_LOG);
 
 const MOST_MARKS: usize = MOST_STATES * ROW_MARKS;
 
-fn report_refusal(error: SheetError, out: &mut [u8; MOST_PRINTED]) -> usize
-    ensures { Printed (lines (refused_answer (sheet_number error)) []) out.old out.new result }
+// Prints the number that refuses a sheet, or the search that it asks for.
+fn report_refusal(number: u64, out: &mut [u8; MOST_PRINTED]) -> usize
+    ensures { Printed (lines (refused_answer number) []) out.old out.new result }
 {
-    write_lines(Answer::refused(error.number()), &[], out)
+    write_lines(Answer::refused(number), &[], out)
 }
 
-// Prints an answer, and the inputs that it tells from the words of its store.
-fn report_answer(
-    answer: Result<Ended, Refusal>,
-    words: StoreWords,
-    out: &mut [u8; MOST_PRINTED],
-) -> usize
-    ensures { let store = words.entry.store in (marks : List ℕ) → length marks ≡ store.rows * store.marks
-        → Printed (answer_lines answer (rows_of store words.entry.words.now marks)) out.old out.new result }
+// Prints how a search ended, and the inputs that this tells from its store.
+fn report_end(ended: Ended, store: StoreRef, out: &mut [u8; MOST_PRINTED]) -> usize
+    requires { store.layout.words ≤ store.layout.marks + header + bench_limits.log }
+    ensures { Printed (answer_lines (Ok ended) (rows_seen store.entry)) out.old out.new result }
 {
-    write_lines(search_answer(answer), words.told(answer), out)
+    write_lines(
+        ended.finding.answer(ended.used),
+        told(store, ended.finding),
+        out,
+    )
 }
 
 // The search, on a store of just the lengths that the sheet asks for.
@@ -64,21 +65,26 @@ fn report_search(sheet: &[u8], asked: Sheet, out: &mut [u8; MOST_PRINTED]) -> us
     ensures { Printed (search_printed sheet.now asked) out.old out.new result }
 {
     let options = asked.options;
-    let store = Layout::new(
+    let layout = Layout::new(
         options.amount_of_states as usize,
         options.memory_size / 8,
         asked.log,
     );
-    let n = store.rows * store.words;
-    let m = store.rows * store.marks;
+    let n = layout.rows * layout.words;
+    let m = layout.rows * layout.marks;
     let mut words = [0; MOST_WORDS];
     let mut marks = [0; MOST_MARKS];
-    let answer = search_sheet(sheet, asked, &mut words[0..n], &mut marks[0..m]);
-    let words = StoreWords {
-        store,
-        words: &words[0..n],
-    };
-    report_answer(answer, words, out)
+    match search_sheet(sheet, asked, &mut words[0..n], &mut marks[0..m]) {
+        Ok(ended) => {
+            let store = StoreRef {
+                words: &words[0..n],
+                marks: &marks[0..m],
+                layout,
+            };
+            report_end(ended, store, out)
+        }
+        Err(refusal) => report_refusal(refusal.number(), out),
+    }
 }
 
 fn report_sheet(sheet: &[u8], out: &mut [u8; MOST_PRINTED]) -> usize
@@ -86,7 +92,7 @@ fn report_sheet(sheet: &[u8], out: &mut [u8; MOST_PRINTED]) -> usize
 {
     match parse(sheet, Limits::bench()) {
         Ok(asked) => report_search(sheet, asked, out),
-        Err(error) => report_refusal(error, out),
+        Err(error) => report_refusal(error.number(), out),
     }
 }
 

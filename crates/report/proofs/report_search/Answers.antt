@@ -1,48 +1,54 @@
-use Rattle.std.proofs.Common.{ℕ, ◌*◌, List, ap, ◌∙◌, arith}
+use Rattle.std.proofs.Common.{arith}
 use Rattle.laws.proofs.Fronts.{front_part}
-use Rattle.store.specs.Store.{rows_of}
-use Rattle.report.specs.Printing.{answer_lines}
 use Rattle.report.proofs.Zeros.{zeros}
-use Rattle.report.proofs.Stores.{most_words, memory_few, log_few, words_few, marks_few, words_lent, marks_lent, printed_search}
+use Rattle.report.proofs.Stores.{most_words, most_marks, memory_few, log_few, words_few, marks_few, log_of_row, store_fit, printed_search}
 use Rattle.report.proofs.Texts.{printed_as}
 use Rattle.report.proofs.report_search.Goals as goal
 
-pub new-store-requires-clause-memory : goal.new-store-requires-clause-memory
-new-store-requires-clause-memory c = omega (arith, memory_few c.args.sheet.now c.args.asked c.requires)
+pub new-layout-requires-clause-memory : goal.new-layout-requires-clause-memory
+new-layout-requires-clause-memory c = omega (arith, memory_few c.args.sheet.now c.args.asked c.requires)
 
-pub new-store-requires-clause-log : goal.new-store-requires-clause-log
-new-store-requires-clause-log c = omega (arith, log_few c.args.sheet.now c.args.asked c.requires)
+pub new-layout-requires-clause-log : goal.new-layout-requires-clause-log
+new-layout-requires-clause-log c = omega (arith, log_few c.args.sheet.now c.args.asked c.requires)
 
 pub overflow_mul-n : goal.overflow_mul-n
-overflow_mul-n c = omega (arith, words_few c.args.sheet.now c.args.asked c.requires c.new-store.ensures)
+overflow_mul-n c = omega (arith, words_few c.args.sheet.now c.args.asked c.requires c.new-layout.ensures)
 
 pub overflow_mul-m : goal.overflow_mul-m
-overflow_mul-m c = omega (arith, marks_few c.args.sheet.now c.args.asked c.requires c.new-store.ensures)
+overflow_mul-m c = omega (arith, marks_few c.args.sheet.now c.args.asked c.requires c.new-layout.ensures)
 
 pub slice_bounds-words-end : goal.slice_bounds-words-end
-slice_bounds-words-end c = omega (arith, words_few c.args.sheet.now c.args.asked c.requires c.new-store.ensures)
+slice_bounds-words-end c = omega (arith, words_few c.args.sheet.now c.args.asked c.requires c.new-layout.ensures)
 
 pub slice_bounds-marks-end : goal.slice_bounds-marks-end
-slice_bounds-marks-end c = omega (arith, marks_few c.args.sheet.now c.args.asked c.requires c.new-store.ensures)
+slice_bounds-marks-end c = omega (arith, marks_few c.args.sheet.now c.args.asked c.requires c.new-layout.ensures)
 
-pub invariant_of-words : goal.invariant_of-words
-invariant_of-words c =
+pub report_end-requires : goal.report_end-requires
+report_end-requires c = log_of_row c.args.sheet.now c.args.asked c.requires c.new-layout.ensures
+
+pub invariant_of-store : goal.invariant_of-store
+invariant_of-store c =
     let s = c.args.sheet.now in
     let h = c.args.asked in
-    let x = c.search_sheet-answer in
-    let new = c.new-store in
-    let few = words_few s h c.requires new.ensures in
-    rw (front_part (new.result.rows * new.result.words) (zeros most_words) x.new.words few x.auto.words) (record { lent = words_lent s h c.requires new.ensures x.new.words x.auto.words })
+    let x = c.search_sheet in
+    let is = c.new-layout.ensures in
+    let words = front_part _ (zeros most_words) x.new.words (words_few s h c.requires is) x.auto.words in
+    let marks = front_part _ (zeros most_marks) x.new.marks (marks_few s h c.requires is) x.auto.marks in
+    rw (words, marks)
+    (record { fit = store_fit s h c.requires is x.new.words x.new.marks x.result c.in-Ok.is x.ensures x.auto.words x.auto.marks })
 
-pub returns : goal.returns
-returns c =
+pub returns-in-Ok : goal.returns-in-Ok
+returns-in-Ok c =
     let s = c.args.sheet.now in
     let h = c.args.asked in
-    let x = c.search_sheet-answer in
-    let new = c.new-store in
-    let few = words_few s h c.requires new.ensures in
-    let words = x.new.words in
-    let marks = x.new.marks in
-    let back = front_part (new.result.rows * new.result.words) (zeros most_words) words few x.auto.words in
-    let same = ap (λ (l : List ℕ). answer_lines x.result (rows_of new.result l marks)) back ∙ printed_search s h c.requires new.ensures words marks x.result x.ensures in
-    printed_as same (c.report_answer.ensures marks (marks_lent s h c.requires new.ensures marks x.auto.marks))
+    let x = c.search_sheet in
+    let is = c.new-layout.ensures in
+    let words = front_part _ (zeros most_words) x.new.words (words_few s h c.requires is) x.auto.words in
+    let marks = front_part _ (zeros most_marks) x.new.marks (marks_few s h c.requires is) x.auto.marks in
+    printed_as (rw (words, marks) (printed_search s h c.requires is x.new.words x.new.marks x.result c.in-Ok.is x.ensures)) c.report_end.ensures
+
+pub returns-in-Err : goal.returns-in-Err
+returns-in-Err c =
+    let x = c.search_sheet in
+    let text = printed_search c.args.sheet.now c.args.asked c.requires c.new-layout.ensures x.new.words x.new.marks x.result c.in-Err.is x.ensures in
+    printed_as (rw c.number.ensures text) c.report_refusal.ensures
