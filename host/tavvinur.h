@@ -12,7 +12,7 @@
  *    so that a search may keep other rows.
  * All memory is the caller's. The library allocates nothing, keeps no pointer and no state between calls, writes only what is lent
  * without const, and calls nothing but memcpy and memset. Calls on different memory may run at once. A search takes 140 KiB of
- * stack, a scoring 40 KiB, a run 3.1 KiB, of a program or of a row, the others less than 1 KiB.
+ * stack, a scoring 40 KiB, a run 3 KiB, of a program or of a row, the others less than 1 KiB.
  *
  * A row, with W = memory / 8: 37 + W + log words and 32 + W marks.
  *   words: pc, break, depth, limit, log count, 32 registers, W memory words, log words
