@@ -1,3 +1,4 @@
 pub mod Formats
 pub mod Decoding
 pub mod Registers
+pub mod Narrow

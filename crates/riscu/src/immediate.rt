@@ -1,24 +1,53 @@
-// The immediates of a word, put together from parts of it.
-ghost use Rattle.std.specs.Prelude.{◌≡◌, ◌<◌, ◌≤◌, ◌^◌};
-ghost use Rattle.riscu.specs.Formats.{sign_extend, imm_i, imm_s, imm_b, imm_j, imm_u};
+// The immediates of a word, put together from parts of it in 32-bit numbers, sign included, and widened once at the end.
+ghost use Rattle.std.specs.Prelude.{◌≡◌, ◌-◌, ◌<◌, ◌≤◌, ◌^◌};
+ghost use Rattle.riscu.specs.Formats.{signed, sign_extend, imm_i, imm_s, imm_b, imm_j, imm_u};
+ghost use Rattle.riscu.specs.Narrow.{signed_in_32};
 
 use crate::bits::bits;
 
+// What the sign of a 32-bit number is worth in it.
+const SIGN: u32 = 0x8000_0000;
+
+// The upper half of a 64-bit number that is negative and fits 32 bits.
+const UPPER_ONES: u64 = 0xFFFF_FFFF_0000_0000;
+
+// A number of N bits, the highest its sign, as the 32-bit number of the same value.
+#[tactic(auto, unfolding(crate::specs::Narrow::signed_in_32), using(crate::proofs::Widths::width))]
+fn signed_in_32<const N: u32>(x: u32) -> u32
+    requires some { 1 ≤ N }
+    requires most { N ≤ 32 }
+    requires within { x < 2 ^ N }
+    ensures { result ≡ signed_in_32 (2 ^ (N - 1)) x }
+{
+    let sign: u32 = 1 << (N - 1);
+    if x < sign {
+        x
+    } else {
+        x - sign + (u32::MAX - (sign - 1))
+    }
+}
+
+// A 32-bit number as the 64-bit number of the same value.
+#[tactic(auto, unfolding(crate::specs::Formats::signed))]
+fn widen(x: u32) -> u64
+    ensures { result ≡ signed (2 ^ 31) x }
+{
+    if x < SIGN {
+        x as u64
+    } else {
+        x as u64 + UPPER_ONES
+    }
+}
+
 // A number of N bits, the highest its sign, as the 64-bit number of the same value.
-#[tactic(auto, unfolding(crate::specs::Formats::signed), using(crate::proofs::Widths::width))]
+#[tactic(auto, using(crate::proofs::Widths::widened))]
 fn sign_extend<const N: u32>(x: u32) -> u64
     requires some { 1 ≤ N }
     requires most { N ≤ 32 }
     requires within { x < 2 ^ N }
     ensures { result ≡ sign_extend N x }
 {
-    let sign: u64 = 1 << (N - 1);
-    let x = x as u64;
-    if x < sign {
-        x
-    } else {
-        x + (u64::MAX - (sign * 2 - 1))
-    }
+    widen(signed_in_32::<N>(x))
 }
 
 pub(crate) fn imm_i(word: u32) -> u64
