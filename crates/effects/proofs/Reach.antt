@@ -2,7 +2,6 @@
 use Rattle.std.proofs.Common.{◌≡◌, ℕ, ◌/◌, ◌%◌, ◌<◌, true, false, eqb, ltb, arith, ltb-true}
 use Rattle.std.proofs.lemmas.Bool.{eqb-false}
 use Rattle.laws.proofs.Choices.{chosen, parts}
-use Rattle.riscu.specs.Formats.{imm_b}
 use Rattle.riscu.specs.Registers.{Registers}
 use Rattle.riscu.specs.declared.instruction.Instruction.{Instruction}
 use Rattle.riscu.specs.declared.instruction.Instruction.TheVariants as instruction
@@ -81,7 +80,7 @@ unfolding effect_of
 in_reach (instruction.Lui t) pc x w h = assign_reach w t.rd (Concrete t.imm) (following pc) h
 in_reach (instruction.Jal t) pc x w h = assign_reach w t.rd (Concrete (following pc)) (add pc t.imm) h
 in_reach (instruction.Jalr t) pc x w h = jalr_reach w t.rd t.imm pc (x t.rs1) h.rd
-in_reach (instruction.Beq t) pc x w h = beq_reach w (imm_b t.word) pc (x t.rs1) (x t.rs2)
+in_reach (instruction.Beq t) pc x w h = beq_reach w t.imm pc (x t.rs1) (x t.rs2)
 in_reach (instruction.Ld t) pc x w h = ld_reach w t.rd t.imm pc (x t.rs1) h.rd
 in_reach (instruction.Sd t) pc x w h = sd_reach w t.imm pc (x t.rs1) (x t.rs2)
 in_reach (instruction.Addi t) pc x w h = binary_reach w Add t.rd pc (x t.rs1) (Concrete t.imm) h.rd

@@ -1,7 +1,6 @@
 -- What each instruction does ("Executing" in document 01), from its pc, the values of its operands and the number W of memory words.
 -- Arithmetic, addresses and targets are the manual's; where document 01 departs from it, a line says so.
 use Rattle.std.specs.Prelude.{ℕ, ◌/◌, ◌%◌, Bool, false, cond, ◌&&◌, ◌==◌, nat_lt}
-use Rattle.riscu.specs.Formats.{imm_b}
 use Rattle.riscu.specs.declared.instruction.Instruction.{Instruction}
 use Rattle.riscu.specs.declared.instruction.Instruction.TheVariants as instruction
 use Rattle.answers.specs.declared.bug.Bug.{Bug}
@@ -97,7 +96,7 @@ unfoldable pub effect_of : Instruction → ℕ → (ℕ → Value) → ℕ → E
 effect_of (instruction.Lui t) pc x w = lui t.rd t.imm pc
 effect_of (instruction.Jal t) pc x w = jal t.rd t.imm pc
 effect_of (instruction.Jalr t) pc x w = jalr t.rd t.imm pc (x t.rs1)
-effect_of (instruction.Beq t) pc x w = beq (imm_b t.word) pc (x t.rs1) (x t.rs2)
+effect_of (instruction.Beq t) pc x w = beq t.imm pc (x t.rs1) (x t.rs2)
 effect_of (instruction.Ld t) pc x w = ld t.rd t.imm pc (x t.rs1) w
 effect_of (instruction.Sd t) pc x w = sd t.imm pc (x t.rs1) (x t.rs2) w
 effect_of (instruction.Addi t) pc x w = binary_op Add t.rd pc (x t.rs1) (Concrete t.imm)

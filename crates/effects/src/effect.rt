@@ -44,16 +44,16 @@ pub enum Effect {
 // The effect of an instruction at pc, with these registers and a memory of `memory` words. Each arm reads its own
 // operands, so that an instruction is dispatched once.
 #[tactic(auto, unfolding(crate::specs::Effects::effect_of))]
-pub fn effect_of(registers: Slots, instruction: Instruction, pc: u64, memory: u64) -> Effect
-    requires registers { Registers instruction }
-    ensures { result ≡ effect_of instruction pc (register registers.entry) memory }
+pub fn effect_of(registers: Slots, instruction: &Instruction, pc: u64, memory: u64) -> Effect
+    requires registers { Registers instruction.now }
+    ensures { result ≡ effect_of instruction.now pc (register registers.entry) memory }
 {
     let x = |n: usize| registers.register(n);
     match instruction {
         Instruction::Lui(t) => lui(t.rd, t.imm, pc),
         Instruction::Jal(t) => jal(t.rd, t.imm, pc),
         Instruction::Jalr(t) => jalr(t.rd, t.imm, pc, x(t.rs1)),
-        Instruction::Beq(t) => beq(t.word, pc, x(t.rs1), x(t.rs2)),
+        Instruction::Beq(t) => beq(t, pc, x(t.rs1), x(t.rs2)),
         Instruction::Ld(t) => ld(t.rd, t.imm, pc, x(t.rs1), memory),
         Instruction::Sd(t) => sd(t.imm, pc, x(t.rs1), x(t.rs2), memory),
         Instruction::Addi(t) => binary_op(Op::Add, t.rd, pc, x(t.rs1), Value::Concrete(t.imm)),

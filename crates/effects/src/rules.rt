@@ -1,6 +1,5 @@
 // The rules of the instructions, by the values of their operands.
 ghost use Rattle.std.specs.Prelude.{◌≡◌};
-ghost use Rattle.riscu.specs.Formats.{imm_b};
 ghost use Rattle.effects.specs.Effects.{not_supported, missing_operand, binary_op, is_zero, divu_remu};
 ghost use Rattle.effects.specs.Effects.{following as following_of, assign as assign_of, valid_address, invalid_address, load_from, store_to};
 ghost use Rattle.effects.specs.Effects.{lui as lui_of, beq as beq_of, jal as jal_of, jalr as jalr_of, ld as ld_of, sd as sd_of};
@@ -10,8 +9,7 @@ use crate::effect::Effect;
 use answers::bug::{Bug, UninitializedMemoryAccessReason};
 use answers::error::{ExecutorError, NotSupportedReason};
 use answers::outcome::Outcome;
-use riscu::immediate::imm_b;
-use riscu::instruction::INSTRUCTION_SIZE;
+use riscu::instruction::{BType, INSTRUCTION_SIZE};
 use values::Value;
 
 // The pc of the instruction that follows.
@@ -86,11 +84,11 @@ pub(crate) fn divu_remu(op: Op, rd: usize, pc: u64, a: Value, b: Value) -> Effec
     }
 }
 
-// The immediate is put together only where the branch is taken: the compiler then makes a branch of it, and the next
-// fetch need not wait for the comparison.
+// The immediate is read only where the branch is taken: the compiler then makes a branch of it, and the next fetch need
+// not wait for the comparison.
 #[tactic(auto, unfolding(crate::specs::Effects::beq))]
-pub(crate) fn beq(word: u32, pc: u64, a: Value, b: Value) -> Effect
-    ensures { result ≡ beq_of (imm_b word) pc a b }
+pub(crate) fn beq(t: &BType, pc: u64, a: Value, b: Value) -> Effect
+    ensures { result ≡ beq_of t.now.imm pc a b }
 {
     let Value::Concrete(x) = a else {
         return missing_operand();
@@ -100,7 +98,7 @@ pub(crate) fn beq(word: u32, pc: u64, a: Value, b: Value) -> Effect
     };
     if x == y {
         Effect::Jump {
-            next_pc: pc.wrapping_add(imm_b(word)),
+            next_pc: pc.wrapping_add(t.imm),
         }
     } else {
         Effect::Jump {

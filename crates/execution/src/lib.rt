@@ -60,10 +60,10 @@ fn apply(row: &mut RowMut, effect: Effect) -> Next
 
 // Carries out an instruction, but for a system call, which is left to the layer above.
 #[tactic(auto, unfolding(crate::specs::Execution::effect_in), using(effects::proofs::Reach::in_reach))]
-pub fn execute(row: &mut RowMut, instruction: Instruction) -> Next
-    requires { Registers instruction }
-    ensures value { result ≡ next_of (effect_in instruction (lent row.old)) }
-    ensures row_after { lent row.new ≡ applied (effect_in instruction (lent row.old)) (lent row.old) }
+pub fn execute(row: &mut RowMut, instruction: &Instruction) -> Next
+    requires { Registers instruction.now }
+    ensures value { result ≡ next_of (effect_in instruction.now (lent row.old)) }
+    ensures row_after { lent row.new ≡ applied (effect_in instruction.now (lent row.old)) (lent row.old) }
     ensures same_slices { SameSlices row.old row.new }
 {
     let view = row.view();

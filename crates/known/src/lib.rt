@@ -4,8 +4,9 @@
 #![tactic(auto)]
 
 ghost use Rattle.std.specs.Prelude.{◌≡◌, Some};
+ghost use Rattle.std.specs.Option.{option_copied};
 ghost use Rattle.riscu.specs.Decoding.{decoded};
-ghost use Rattle.riscu.specs.Registers.{RegistersIn};
+ghost use Rattle.riscu.specs.Registers.{Registers, RegistersIn};
 
 use riscu::decode::decode;
 use riscu::instruction::{INSTRUCTION_SIZE, Instruction};
@@ -21,6 +22,17 @@ struct Entry {
     word: u32,
     instruction: Instruction,
     ghost decoding: { Some instruction ≡ decoded word },
+}
+
+impl Entry {
+    // What its word decodes to.
+    #[tactic(auto, using(riscu::proofs::Registers::decoded_registers))]
+    fn instruction(&self) -> &Instruction
+        ensures value { Some result.now ≡ decoded self.now.word }
+        ensures registers { Registers result.now }
+    {
+        &self.instruction
+    }
 }
 
 // An entry for each place of an instruction, modulo their number.
@@ -42,17 +54,17 @@ impl Known {
         }
     }
 
-    // What a word that was fetched at pc decodes to: by the table, or anew.
-    #[tactic(auto, using(riscu::proofs::Registers::decoded_registers))]
-    pub fn decode(&mut self, pc: u64, word: u32) -> Option<Instruction>
-        ensures value { result ≡ decoded word }
-        ensures registers { RegistersIn result }
+    // What a word that was fetched at pc decodes to: by the table, or anew. It is lent and not copied out, so that what only a
+    // taken branch wants is read only there.
+    pub fn decode(&mut self, pc: u64, word: u32) -> Option<&Instruction>
+        ensures value { option_copied result ≡ decoded word }
+        ensures registers { RegistersIn (option_copied result) }
     {
         let at = (pc / INSTRUCTION_SIZE) as usize % ENTRIES;
         if self.entries[at].word != word {
             let instruction = decode(word)?;
             self.entries[at] = Entry { word, instruction };
         }
-        Some(self.entries[at].instruction)
+        Some(self.entries[at].instruction())
     }
 }

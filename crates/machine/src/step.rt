@@ -94,14 +94,14 @@ fn follow(row: &mut RowMut, next: Next, tape: &[u64], used: &mut usize, handing:
 #[tactic(auto, unfolding(crate::specs::Steps::executed))]
 fn advance(
     row: &mut RowMut,
-    instruction: Instruction,
+    instruction: &Instruction,
     tape: &[u64],
     used: &mut usize,
     handing: bool,
 ) -> Step
-    requires { Registers instruction }
+    requires { Registers instruction.now }
     ensures row_after { step_to result used.new (lent row.new)
-        ≡ handed_on handing (executed (Some instruction) tape.now used.old (lent row.old)) }
+        ≡ handed_on handing (executed (Some instruction.now) tape.now used.old (lent row.old)) }
     ensures same_slices { SameSlices row.old row.new }
 {
     let next = execute(row, instruction);

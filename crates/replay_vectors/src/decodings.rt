@@ -4,7 +4,6 @@ ghost use Rattle.riscu.specs.Registers.{RegistersIn};
 use crate::columns::{Column, has_shape};
 use crate::tally::Verdict;
 use riscu::decode::decode;
-use riscu::immediate::imm_b;
 use riscu::instruction::{BType, IType, Instruction, JType, RType, SType, UType};
 
 const WORD: Column = Column { at: 0, digits: 8 };
@@ -64,7 +63,7 @@ fn b_fields(form: u64, t: BType) -> Fields {
         form,
         rs1: t.rs1,
         rs2: t.rs2,
-        imm: imm_b(t.word),
+        imm: t.imm,
         ..Fields::default()
     }
 }

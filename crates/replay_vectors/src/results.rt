@@ -97,7 +97,7 @@ fn effect_on(line: &[u8], instruction: Instruction, fields: Fields) -> Effect
         words: &registers,
         marks: &[1; 32],
     };
-    effect_of(registers, instruction, PC.number(line), NO_MEMORY)
+    effect_of(registers, &instruction, PC.number(line), NO_MEMORY)
 }
 
 // The departure that a line's mark names, in an instruction that can depart so.

@@ -65,9 +65,8 @@ i_type x = record { rd = rd x; rs1 = rs1 x; imm = imm_i x }
 abbrev pub s_type : ℕ → SType
 s_type x = record { rs1 = rs1 x; rs2 = rs2 x; imm = imm_s x }
 
--- its immediate is imm_b of the word
 abbrev pub b_type : ℕ → BType
-b_type x = record { rs1 = rs1 x; rs2 = rs2 x; word = x }
+b_type x = record { rs1 = rs1 x; rs2 = rs2 x; imm = imm_b x }
 
 abbrev pub u_type : ℕ → UType
 u_type x = record { rd = rd x; imm = imm_u x }

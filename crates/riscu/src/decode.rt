@@ -5,7 +5,7 @@ ghost use Rattle.riscu.specs.Formats.{funct3 as funct3_of};
 ghost use Rattle.riscu.specs.Decoding.{decoded, decoded_op};
 
 use crate::bits::bits;
-use crate::immediate::{imm_i, imm_j, imm_s, imm_u};
+use crate::immediate::{imm_b, imm_i, imm_j, imm_s, imm_u};
 use crate::instruction::{BType, IType, Instruction, JType, RType, SType, UType};
 
 fn funct3(word: u32) -> u32
@@ -50,7 +50,7 @@ fn b_type(word: u32) -> BType
     BType {
         rs1: bits::<19, 15>(word) as usize,
         rs2: bits::<24, 20>(word) as usize,
-        word,
+        imm: imm_b(word),
     }
 }
 

@@ -80,8 +80,7 @@ pub(crate) fn imm_u(word: u32) -> u64
     (bits::<31, 12>(word) * 0x1000) as u64
 }
 
-// The immediate of a branch (BType), for where it is taken.
-pub fn imm_b(raw: u32) -> u64
+pub(crate) fn imm_b(raw: u32) -> u64
     ensures { result ≡ imm_b raw }
 {
     sign_extend::<13>(

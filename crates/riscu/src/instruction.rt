@@ -1,6 +1,5 @@
 // The fourteen instructions, each with the fields of its format (the manual's R, I, S, B, U and J).
-// A register is its number, from 0 to 31; an immediate is ready for use as a 64-bit number, but for a branch's, which
-// is put together only where the branch is taken.
+// A register is its number, from 0 to 31; an immediate is ready for use as a 64-bit number.
 
 // The bytes that an instruction takes.
 pub const INSTRUCTION_SIZE: u64 = 4;
@@ -34,8 +33,7 @@ pub struct SType {
 pub struct BType {
     pub rs1: usize,
     pub rs2: usize,
-    // the word itself, for `imm_b`
-    pub word: u32,
+    pub imm: u64,
 }
 
 // An immediate of the upper bits and a destination.

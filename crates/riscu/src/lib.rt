@@ -4,5 +4,5 @@
 
 mod bits;
 pub mod decode;
-pub mod immediate;
+mod immediate;
 pub mod instruction;
