@@ -30,7 +30,7 @@ module _ {A : Type 0} (f : Row → A) (pc : (x : ℕ) (r : Row) → f (set_pc x 
   read_to_kept (Ok b) tape used r =
       then_kept f (λ u s. running u (returned b.size s)) (λ u s. answer b.size s) (bytes b.size tape (b.address / 8) used r) r
       (input b.size tape (b.address / 8) used r)
-  read_to_kept (Err o) tape used r = search answer
+  read_to_kept (Err o) tape used r = refl
 
   call_kept : (id : SyscallId) (tape : List ℕ) (used : ℕ) (r : Row) → f (call_of id tape used r).row ≡ f r
   unfolding call_of read

@@ -48,22 +48,13 @@ fn i_fields(form: u64, t: IType) -> Fields {
     }
 }
 
-fn s_fields(form: u64, t: SType) -> Fields {
+// The formats of two sources and an immediate are S and B.
+fn sources_fields(form: u64, rs1: usize, rs2: usize, imm: u64) -> Fields {
     Fields {
         form,
-        rs1: t.rs1,
-        rs2: t.rs2,
-        imm: t.imm,
-        ..Fields::default()
-    }
-}
-
-fn b_fields(form: u64, t: BType) -> Fields {
-    Fields {
-        form,
-        rs1: t.rs1,
-        rs2: t.rs2,
-        imm: t.imm,
+        rs1,
+        rs2,
+        imm,
         ..Fields::default()
     }
 }
@@ -83,9 +74,9 @@ pub(crate) fn fields_of(instruction: Instruction) -> Fields {
         Instruction::Lui(UType { rd, imm }) => rd_fields(1, rd, imm),
         Instruction::Jal(JType { rd, imm }) => rd_fields(2, rd, imm),
         Instruction::Jalr(t) => i_fields(3, t),
-        Instruction::Beq(t) => b_fields(4, t),
+        Instruction::Beq(BType { rs1, rs2, imm }) => sources_fields(4, rs1, rs2, imm),
         Instruction::Ld(t) => i_fields(5, t),
-        Instruction::Sd(t) => s_fields(6, t),
+        Instruction::Sd(SType { rs1, rs2, imm }) => sources_fields(6, rs1, rs2, imm),
         Instruction::Addi(t) => i_fields(7, t),
         Instruction::Add(t) => r_fields(8, t),
         Instruction::Sub(t) => r_fields(9, t),

@@ -1,5 +1,5 @@
--- A stepping stone between contracts: a number whose sign is worth s in it, as the 32-bit number of the same value. That its widening by the
--- sign is the 64-bit number, `signed s x` of Formats, for any such s, is the law `widened` in proofs/Widths.
+-- A stepping stone between contracts: a number whose sign is worth s in it, as the 32-bit number of the same value. Widened by its sign it is
+-- the 64-bit number of that value, whatever the width it had: `widened` in proofs/Widths.
 use Rattle.std.specs.Prelude.{cond, ℕ, ◌+◌, ◌-◌, ◌*◌, ◌^◌, ltb}
 
 unfoldable pub signed_in_32 : ℕ → ℕ → ℕ
