@@ -11,21 +11,25 @@
  *    FE_TONEAREST), and MXCSR has neither denormals-are-zero set nor an exception unmasked. Rounding otherwise gives other scores,
  *    so that a search may keep other rows.
  * All memory is the caller's. The library allocates nothing, keeps no pointer and no state between calls, writes only what is lent
- * without const, and calls nothing but memcpy and memset. Calls on different memory may run at once. A search takes 140 KiB of
- * stack, a scoring 40 KiB, a run 3 KiB, of a program or of a row, the others less than 1 KiB.
+ * without const, and calls nothing but memcpy and memset. Calls on different memory may run at once. A search takes 210 KiB of
+ * stack, a scoring 110 KiB, a run 3 KiB, of a program or of a row, the others less than 1 KiB.
  *
  * A row, with W = memory / 8: 37 + W + log words and 32 + W marks.
  *   words: pc, break, depth, limit, log count, 32 registers, W memory words, log words
  *   marks: one byte for each register and memory word, 1 concrete, 0 uninitialised (whose word is 0)
  * A store of n rows has exactly n times as many words and marks, row after row.
  *
+ * A table to count in: 256 * (W + 320) counters of 32 bits, 459 KB with 1 KiB of memory and 135 MB with 1 MiB. It may hold anything. A call that
+ * is not refused leaves all of it 0, whatever the call answers; one that is refused leaves it as it was. What is 0 is not written: of a table
+ * fresh from the system (calloc) the pages in which nothing is counted stay unmapped, and take no memory.
+ *
  * Numbers of answers (docs/NUMBERS.md has all numbers, those of sheets too):
  *   0  run, run_program: ended by exit with 0; search: nothing found; new_executor, score: done
  *   1  memory is no multiple of 1024 from 1024 to 1048576        5  lent lengths are not exact
- *   2  states or rows are not from 1 to 4096                     6  a length of code or data is no multiple of 8
- *   3  the ratio is not from 0 to 1                              7  code or data ends past memory
- *   4  log is above 65536                                        9  a row that no executor can have
- *  53  the mean is above 1 (tested first)
+ *   2  states or rows are not from 1 to 4096                    32  the table's length is not exact (tested after 5)
+ *   3  the ratio is not from 0 to 1                              6  a length of code or data is no multiple of 8
+ *   4  log is above 65536                                        7  code or data ends past memory
+ *  53  the mean is above 1 (tested first)                        9  a row that no executor can have
  *   8  search: fewer tape words left than copies to make        20  not supported; the value is the reason, 1 to 13
  *  21  no instruction                                           22  run: the limit is reached, and the row can be run on
  *  23  pc past memory        24  tape empty        25  log full  31  scores cannot be ordered
@@ -73,6 +77,12 @@ typedef struct {
     uint64_t written; /* bytes at the front of the output */
 } tavvinur_printed;
 
+/* Of a scoring in a table. */
+typedef struct {
+    uint64_t number;
+    uint64_t increments; /* how often a counter went up: 8 for each marked word and each pc of the rows; 0 where refused */
+} tavvinur_scored;
+
 /* 400 states of 1 MiB, 1000 instructions, 50 kept, 20 rounds, ratio 0.6, harmonic: the Rust's, but for the states, 3000 there. */
 tavvinur_options tavvinur_default_options(void);
 
@@ -102,11 +112,26 @@ uint64_t tavvinur_score(
     const uint64_t *words, size_t words_length, const uint8_t *marks, size_t marks_length, uint64_t memory, uint64_t log, uint64_t rows,
     uint32_t mean, double *scores, size_t scores_length);
 
+/* The same scores, counted in a lent table: it takes time with the words that are marked, not with pairs of rows. Answers 0, or 53, 1, 2, 4, 5,
+ * 32, 9, 31. The increments are at most 8 * (33 + W) for each row. */
+tavvinur_scored tavvinur_score_by_table(
+    const uint64_t *words, size_t words_length, const uint8_t *marks, size_t marks_length, uint64_t memory, uint64_t log, uint64_t rows,
+    uint32_t mean, uint32_t *table, size_t table_length, double *scores, size_t scores_length);
+
 /* Searches a program for bugs. An accepted call zeroes the store first; nothing of it need be set up. */
 tavvinur_answer tavvinur_search(
     uint64_t *words, size_t words_length, uint8_t *marks, size_t marks_length, tavvinur_options options, uint64_t log,
     uint64_t code_address, const uint8_t *code, size_t code_length, uint64_t data_address, const uint8_t *data, size_t data_length,
     const uint64_t *tape, size_t tape_length);
+
+/* The same search, which counts in a lent table: its answers are those of the other, and 32. */
+tavvinur_answer tavvinur_search_by_table(
+    uint64_t *words, size_t words_length, uint8_t *marks, size_t marks_length, uint32_t *table, size_t table_length,
+    tavvinur_options options, uint64_t log, uint64_t code_address, const uint8_t *code, size_t code_length, uint64_t data_address,
+    const uint8_t *data, size_t data_length, const uint64_t *tape, size_t tape_length);
+
+/* The counters of a table, for rows of so much memory. */
+static inline size_t tavvinur_table_length(uint64_t memory) { return (size_t)(256 * (memory / 8 + 320)); }
 
 /* The words and marks of one row. */
 static inline size_t tavvinur_row_words(uint64_t memory, uint64_t log) { return (size_t)(37 + memory / 8 + log); }

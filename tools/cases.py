@@ -2,19 +2,20 @@
 import collections
 import struct
 
-from model import ARITHMETIC, FIELD_BYTES, FIELDS, HARMONIC, Options, bits_of, row_sizes
+from model import ARITHMETIC, FIELD_BYTES, FIELDS, HARMONIC, Options, bits_of, row_sizes, table_length
 from programs import LEAVE, assemble_texts, label_programs, padded, random_texts, random_word
 
-Case = collections.namedtuple("Case", "name options words marks code data tape")
+Case = collections.namedtuple("Case", "name options words marks table code data tape")
 
 
 def exact_sizes(options):
+    """As many words, marks and counters of a table as the options ask for."""
     row_words, row_marks = row_sizes(options.memory, options.log)
-    return options.states * row_words, options.states * row_marks
+    return options.states * row_words, options.states * row_marks, table_length(options.memory)
 
 
 def case(name, options, code, data=(0, b""), tape=(), lent=None):
-    """As many words and marks are lent as the options ask for, if nothing else is said."""
+    """As much is lent as the options ask for, if nothing else is said."""
     return Case(name, options, *(lent or exact_sizes(options)), code, data, list(tape))
 
 

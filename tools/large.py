@@ -52,7 +52,7 @@ def large_options(rng):
         states, memory = rng.randrange(2, MOST_OF_LARGEST + 1), LARGEST
     ratio = rng.choice(RATIOS) if rng.randrange(3) == 0 else rng.random()
     selection = rng.choice([1, states // 10, states // 4, states // 2, states - 1, states, 2**32 - 1])
-    # some hundred states are scored in some seconds
+    # fewer rounds of many states
     rounds = rng.randrange(1, 7 if states < 129 else 4)
     step = rng.choice([19, 40, 60, 100, 200, 400])
     return Options(states, step, selection, rounds, ratio, rng.choice([ARITHMETIC, HARMONIC]), memory, rng.choice([64, 256, 512]))
@@ -83,7 +83,7 @@ def large_sheets(rng, folder, count):
 
 # --- the default size ---
 
-# One block of sheets in so many has a search of the default size. As scoring is, that takes one to three minutes.
+# One block of sheets in so many has a search of the default size, which takes some seconds.
 BLOCKS_TO_A_DEFAULT, SECONDS = 10, 600
 # More log words, and more tape words for each instruction, than the programs read.
 LOG_OF_DEFAULT, INSTRUCTIONS_A_WORD = 10_000, 2

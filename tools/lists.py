@@ -1,5 +1,6 @@
 """What the tools that make lists share: lines of numbers, lines that are wrong on purpose, the digest, and the command line."""
 import argparse
+import collections
 import os
 import sys
 
@@ -40,6 +41,21 @@ def line_of(name, numbers):
 def check_names(names):
     need(len(set(names)) == len(names), "two cases have one name")
 
+
+def need_each(call, given, must_occur, least):
+    """Each number that the call gives, and no other, occurs often enough."""
+    numbers = collections.Counter(given)
+    print(f"{call}: " + ", ".join(f"{number} {numbers[number]} times" for number in sorted(numbers)))
+    for wanted in must_occur:
+        need(numbers[wanted] >= least, f"number {wanted} occurs {numbers[wanted]} times")
+    need(set(numbers) == set(must_occur), "a number that the call does not give")
+
+
+# --- lent tables ---
+
+# As many counters as 2048 bytes of memory want, what stands in each before a call, and lengths that are wrong, by memory: 1024 bytes want 114,688.
+MOST_COUNTERS, JUNK_COUNTER = 147_456, 7
+WRONG_TABLES = {1024: [0, 1, 448, 81_920, 114_560, 114_687, 114_689, 147_456], 2048: [0, 114_688, 147_455]}
 
 # --- lines that are wrong on purpose ---
 

@@ -1,5 +1,5 @@
 """A model of the scope paper: one executor on its row, the entries over one row, scoring, whole searches, and sheets; and of
-document 02's run at the counter.
+document 02's run at the counter and of its calls that count in a lent table.
 
 A second reading of the paper that shares nothing with the Rattle code. The tools that make the lists in crates/*/data ask it
 what each case must come to; mksheet and explain have from it what a sheet is, what refuses it, and the instructions.
@@ -295,6 +295,19 @@ def sizes_refused(memory, log, words, marks, rows=1, ratio=0.0):
     return 0 if (words, marks) == (rows * row_words, rows * row_marks) else 5
 
 
+TABLE_REFUSED = 32
+
+
+def table_length(memory):
+    """The counters of a lent table, one for each byte value of each cell."""
+    return 256 * (memory // 8 + 320)
+
+
+def table_refused(memory, table):
+    """Number 32; a call that is lent no table (None) has no such test."""
+    return 0 if table in (None, table_length(memory)) else TABLE_REFUSED
+
+
 def segments_refused(memory, segments):
     if any(len(content) % 8 for _, content in segments):
         return 6
@@ -396,10 +409,15 @@ def rows_of(words, marks, memory, log):
     return [(words[r * row_words :][:row_words], marks[r * row_marks :][:row_marks]) for r in range(count)]
 
 
-def score_entry(words, marks, memory, log, count, mean, lent_scores):
-    """The number, and the scores if it is 0."""
+def increments_of(rows):
+    """How often counting these rows adds one to a counter."""
+    return sum(counters_of(rows).values())
+
+
+def score_entry(words, marks, memory, log, count, mean, lent_scores, table=None):
+    """The number, and the scores if it is 0; to the call by table so many counters are lent."""
     number = sizes_refused(memory, log, len(words), len(marks), count)
-    number = number or (5 if lent_scores != count else 0)
+    number = number or (5 if lent_scores != count else 0) or table_refused(memory, table)
     if number:
         return number, []
     rows = rows_of(words, marks, memory, log)
@@ -494,9 +512,11 @@ def first_bug_or_error(answers):
     return (bugs + errors + [None])[0]
 
 
-def search_refused(options, segments, words, marks):
+def search_refused(options, segments, words, marks, table=None):
+    """The number; to the search by table so many counters are lent."""
     o = options
-    return sizes_refused(o.memory, o.log, words, marks, o.states, o.ratio) or segments_refused(o.memory, segments)
+    number = sizes_refused(o.memory, o.log, words, marks, o.states, o.ratio) or table_refused(o.memory, table)
+    return number or segments_refused(o.memory, segments)
 
 
 def search_entry(words, marks, options, segments, tape):

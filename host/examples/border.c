@@ -11,10 +11,11 @@
 #include "slip.h"
 
 enum { MEMORY = 1024, LOG = 24, STATES = 7, STEP = 25, TAPE = 500, CODE_ADDRESS = 0x40, DATA_ADDRESS = 0x300 };
-enum { W = MEMORY / 8, WORDS = 37 + W + LOG, MARKS = 32 + W, ROWS = 3 };
+enum { W = MEMORY / 8, WORDS = 37 + W + LOG, MARKS = 32 + W, ROWS = 3, TABLE = 256 * (W + 320) };
 
 static uint64_t words[STATES * WORDS];
 static uint8_t marks[STATES * MARKS];
+static uint32_t table[TABLE];
 static uint64_t tape[TAPE];
 
 /* xorshift64* */
@@ -27,6 +28,15 @@ static void fill_tape(void)
         x ^= x >> 27;
         tape[i] = x * 0x2545f4914f6cdd1d;
     }
+}
+
+/* The table is dirty before each call, and zero after it. */
+static void soil_table(void) { memset(table, 0xa5, sizeof table); }
+
+static void look_at_table(void)
+{
+    for (size_t i = 0; i < TABLE; i++)
+        assert(table[i] == 0);
 }
 
 static int is(tavvinur_answer a, uint64_t number, uint64_t row, uint64_t pc, uint64_t value, uint64_t used)
@@ -61,12 +71,21 @@ static tavvinur_options asked(void)
     return o;
 }
 
+static int is_found(tavvinur_answer a) { return is(a, 45, 3, 124, 41, 104); }
+
 static int finds(tavvinur_options o)
 {
-    tavvinur_answer a = tavvinur_search(
-        words, sizeof words / sizeof *words, marks, sizeof marks, o, LOG, CODE_ADDRESS, scale_code, sizeof scale_code, DATA_ADDRESS,
-        scale_data, sizeof scale_data, tape, TAPE);
-    return is(a, 45, 3, 124, 41, 104);
+    return is_found(tavvinur_search(
+        words, STATES * WORDS, marks, STATES * MARKS, o, LOG, CODE_ADDRESS, scale_code, sizeof scale_code, DATA_ADDRESS, scale_data,
+        sizeof scale_data, tape, TAPE));
+}
+
+static int finds_by_table(tavvinur_options o)
+{
+    soil_table();
+    return is_found(tavvinur_search_by_table(
+        words, STATES * WORDS, marks, STATES * MARKS, table, TABLE, o, LOG, CODE_ADDRESS, scale_code, sizeof scale_code, DATA_ADDRESS,
+        scale_data, sizeof scale_data, tape, TAPE));
 }
 
 /* The log of the row that met the bug: weights whose sum is the value. */
@@ -88,10 +107,9 @@ static void exchange_counts(uint32_t *a, uint32_t *b)
     *b = kept;
 }
 
-/* The search tells every two fields of the same type apart: with their values exchanged it answers something else. */
-static void look_at_search(void)
+/* A search tells every two fields of the same type apart: with their values exchanged it answers something else. */
+static void look_at_search(int (*finds)(tavvinur_options))
 {
-    assert(tavvinur_row_words(MEMORY, LOG) == WORDS && tavvinur_row_marks(MEMORY) == MARKS);
     for (int i = 0; i < 4; i++)
         for (int j = i + 1; j < 4; j++) {
             tavvinur_options o = asked();
@@ -103,8 +121,15 @@ static void look_at_search(void)
     o.memory_size = STATES;
     o.amount_of_states = MEMORY;
     assert(!finds(o));
+    memset(words, 0, sizeof words);
     assert(finds(asked()));
     look_at_inputs();
+}
+
+static void look_at_lengths(void)
+{
+    assert(tavvinur_row_words(MEMORY, LOG) == WORDS && tavvinur_row_marks(MEMORY) == MARKS);
+    assert(tavvinur_table_length(MEMORY) == TABLE);
 }
 
 /* --- rows by themselves --- */
@@ -178,10 +203,15 @@ static void look_at_scores(void)
         {0x40107aaaaaaaaaab, 0x4010aaaaaaaaaaab, 0x4011321642c8590b},  /* 4.12, 4.17, 4.30 */
         {0x400835066f9f2bd8, 0x400a0e0fb7362d6f, 0x400b7712899c25b6}}; /* 3.03, 3.26, 3.43 */
     for (uint32_t mean = TAVVINUR_ARITHMETIC; mean <= TAVVINUR_HARMONIC; mean++) {
-        double scores[ROWS];
+        double scores[ROWS], by_table[ROWS];
         assert(tavvinur_score(words, ROWS * WORDS, marks, ROWS * MARKS, MEMORY, LOG, ROWS, mean, scores, ROWS) == 0);
+        soil_table();
+        tavvinur_scored scored = tavvinur_score_by_table(
+            words, ROWS * WORDS, marks, ROWS * MARKS, MEMORY, LOG, ROWS, mean, table, TABLE, by_table, ROWS);
+        assert(scored.number == 0 && scored.increments == 568);
+        look_at_table();
         for (size_t r = 0; r < ROWS; r++)
-            assert(bits_of(scores[r]) == expected[mean][r]);
+            assert(bits_of(scores[r]) == expected[mean][r] && bits_of(by_table[r]) == expected[mean][r]);
     }
 }
 
@@ -189,7 +219,10 @@ int main(void)
 {
     fill_tape();
     look_at_defaults();
-    look_at_search();
+    look_at_lengths();
+    look_at_search(finds);
+    look_at_search(finds_by_table);
+    look_at_table();
     for (size_t r = 0; r < ROWS; r++)
         look_at_creation(r);
     look_at_runs();

@@ -11,8 +11,8 @@ mod slip;
 
 use std::{convert::TryInto, mem::swap};
 use tavvinur::{
-    inputs, new_executor, row_marks, row_words, run, run_program, score, search, Answer, Options,
-    Printed, Program, ARITHMETIC, HARMONIC,
+    inputs, new_executor, row_marks, row_words, run, run_program, score, score_by_table, search,
+    search_by_table, table_length, Answer, Options, Printed, Program, ARITHMETIC, HARMONIC,
 };
 
 const MEMORY: u64 = 1024;
@@ -23,6 +23,10 @@ const TAPE: usize = 500;
 const WORDS: usize = 37 + 128 + 24;
 const MARKS: usize = 32 + 128;
 const ROWS: usize = 3;
+const TABLE: usize = 256 * (128 + 320);
+
+/// What stands in a table before a call.
+const DIRT: u32 = 0xa5a5_a5a5;
 
 const PROGRAM: Program = Program {
     code_address: 0x40,
@@ -97,8 +101,31 @@ fn exchanged() -> [Options; 7] {
     all
 }
 
-fn look_at_search(tape: &[u64]) {
+fn look_at_lengths() {
     assert_eq!((row_words(MEMORY, LOG), row_marks(MEMORY)), (WORDS, MARKS));
+    assert_eq!(table_length(MEMORY), TABLE);
+}
+
+/// A search with a dirty table, which it leaves zero unless it is refused.
+fn search_in_table(
+    words: &mut [u64],
+    marks: &mut [u8],
+    options: &Options,
+    log: u64,
+    program: &Program,
+    tape: &[u64],
+) -> Answer {
+    let mut table = vec![DIRT; TABLE];
+    let answer = search_by_table(words, marks, &mut table, options, log, program, tape);
+    let refused = matches!(answer.number, 1..=7 | 53);
+    let left = if refused { DIRT } else { 0 };
+    assert!(table.iter().all(|counter| *counter == left));
+    answer
+}
+
+type Search = fn(&mut [u64], &mut [u8], &Options, u64, &Program, &[u64]) -> Answer;
+
+fn look_at_search(search: Search, tape: &[u64]) {
     let mut words = vec![0; STATES as usize * WORDS];
     let mut marks = vec![0; STATES as usize * MARKS];
     let mut answer = |options: Options| {
@@ -152,6 +179,20 @@ fn look_at_scores(words: &[u64], marks: &[u8]) {
         let mut scores = [0.0; ROWS];
         let rows = ROWS as u64;
         score(words, marks, MEMORY, LOG, rows, mean, &mut scores).expect("the rows are scored");
+        let (mut table, mut by_table) = (vec![DIRT; TABLE], [0.0; ROWS]);
+        let increments = score_by_table(
+            words,
+            marks,
+            MEMORY,
+            LOG,
+            rows,
+            mean,
+            &mut table,
+            &mut by_table,
+        );
+        assert_eq!(increments, Ok(568));
+        assert!(table.iter().all(|counter| *counter == 0));
+        assert_eq!(by_table.map(f64::to_bits), scores.map(f64::to_bits));
         scores.map(f64::to_bits)
     };
     // 4.12, 4.17, 4.30
@@ -194,7 +235,9 @@ fn look_at_program(words: &mut [u64], marks: &mut [u8], tape: &[u64]) {
 fn main() {
     let tape = tape();
     look_at_defaults();
-    look_at_search(&tape);
+    look_at_lengths();
+    look_at_search(search, &tape);
+    look_at_search(search_in_table, &tape);
     let mut words = vec![0; ROWS * WORDS];
     let mut marks = vec![0; ROWS * MARKS];
     for (w, m) in words.chunks_mut(WORDS).zip(marks.chunks_mut(MARKS)) {

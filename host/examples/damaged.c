@@ -11,7 +11,7 @@
 #include "servings.h"
 #include "slip.h"
 
-enum { MEMORY = 1024, LOG = 4, W = MEMORY / 8, ROWS = 3, WORDS = 37 + W + LOG, MARKS = 32 + W, DATA = 0x300 };
+enum { MEMORY = 1024, LOG = 4, W = MEMORY / 8, ROWS = 3, WORDS = 37 + W + LOG, MARKS = 32 + W, DATA = 0x300, TABLE = 256 * (W + 320) };
 
 static unsigned cases;
 
@@ -38,6 +38,13 @@ static void is_kept(block b)
     assert(memcmp(b.lent, b.copy, b.bytes) == 0);
     free(b.lent);
     free(b.copy);
+}
+
+/* A table that a call has left zero, whatever it held. */
+static void is_zeroed(block table)
+{
+    memset(table.copy, 0, table.bytes);
+    is_kept(table);
 }
 
 static void drop(block b)
@@ -246,56 +253,99 @@ static void accept_runs(void)
     drop(words), drop(marks), drop(none);
 }
 
-/* --- scoring --- */
+/* --- scoring, without a table and by one --- */
 
-static void refuse_score(uint64_t memory, uint64_t log, uint64_t rows, uint32_t mean, block words, block marks, size_t count, uint64_t number)
-{
-    block scores = lend(NULL, 8 * count);
-    assert(
-        tavvinur_score(words.lent, words.bytes / 8, marks.lent, marks.bytes, memory, log, rows, mean, scores.lent, count) == number);
-    cases++;
-    is_kept(scores), is_kept(words), is_kept(marks);
-}
+/* What is told and lent, and both numbers; without a table 0 where the other call alone is refused. */
+typedef struct {
+    uint64_t memory, log, rows;
+    uint32_t mean;
+    size_t words, marks, table, scores;
+    uint64_t number, by_table;
+} scoring;
+
+enum { ALL_WORDS = ROWS * WORDS, ALL_MARKS = ROWS * MARKS };
+
+static const scoring scorings[] = {
+    {MEMORY, LOG, ROWS, 2, ALL_WORDS, ALL_MARKS, TABLE, ROWS, 53, 53},
+    {0, UINT64_MAX, 0, UINT32_MAX, 0, 0, 0, 0, 53, 53},
+    {512, LOG, ROWS, 0, ALL_WORDS, ALL_MARKS, TABLE, ROWS, 1, 1},
+    {0, LOG, ROWS, 0, ALL_WORDS, ALL_MARKS, 0, ROWS, 1, 1},
+    {MEMORY, LOG, 0, 0, ALL_WORDS, ALL_MARKS, TABLE, ROWS, 2, 2},
+    {MEMORY, LOG, 4097, 1, ALL_WORDS, ALL_MARKS, TABLE, ROWS, 2, 2},
+    {MEMORY, LOG, UINT64_MAX, 1, ALL_WORDS, ALL_MARKS, TABLE - 1, ROWS, 2, 2},
+    {MEMORY, 65537, ROWS, 1, ALL_WORDS, ALL_MARKS, TABLE, ROWS, 4, 4},
+    {MEMORY, 65537, ROWS, 1, ALL_WORDS, ALL_MARKS, TABLE + 1, ROWS, 4, 4},
+    {MEMORY, LOG, ROWS - 1, 1, ALL_WORDS, ALL_MARKS, TABLE, ROWS - 1, 5, 5},
+    {MEMORY, LOG, ROWS, 1, ALL_WORDS, ALL_MARKS, TABLE, ROWS - 1, 5, 5},
+    {MEMORY, LOG, ROWS, 1, ALL_WORDS, ALL_MARKS, TABLE, ROWS + 1, 5, 5},
+    {MEMORY, LOG, ROWS, 1, ALL_WORDS, ALL_MARKS, TABLE - 1, 0, 5, 5},
+    {MEMORY, LOG, ROWS, 1, ALL_WORDS - 1, ALL_MARKS, TABLE + 1, ROWS, 5, 5},
+    {MEMORY, LOG, ROWS, 1, ALL_WORDS, ALL_MARKS - 1, 0, ROWS, 5, 5},
+    {MEMORY, LOG, ROWS, 1, ALL_WORDS, ALL_MARKS, TABLE - 1, ROWS, 0, 32},
+    {MEMORY, LOG, ROWS, 1, ALL_WORDS, ALL_MARKS, TABLE + 1, ROWS, 0, 32},
+    {MEMORY, LOG, ROWS, 0, ALL_WORDS, ALL_MARKS, 2 * TABLE, ROWS, 0, 32},
+    {MEMORY, LOG, ROWS, 0, ALL_WORDS, ALL_MARKS, 0, ROWS, 0, 32},
+};
 
 static block store_words(void) { return lend(rows_words, sizeof rows_words); }
 static block store_marks(void) { return lend(rows_marks, sizeof rows_marks); }
 
+static void refuse_score(scoring s, block words, block marks)
+{
+    block table = lend(NULL, 4 * s.table), scores = lend(NULL, 8 * s.scores);
+    if (s.number) {
+        assert(
+            tavvinur_score(words.lent, s.words, marks.lent, s.marks, s.memory, s.log, s.rows, s.mean, scores.lent, s.scores) == s.number);
+        cases++;
+    }
+    tavvinur_scored scored = tavvinur_score_by_table(
+        words.lent, s.words, marks.lent, s.marks, s.memory, s.log, s.rows, s.mean, table.lent, s.table, scores.lent, s.scores);
+    assert(scored.number == s.by_table && scored.increments == 0);
+    cases++;
+    is_kept(table), is_kept(scores), is_kept(words), is_kept(marks);
+}
+
 static void refuse_scores(void)
 {
-    refuse_score(MEMORY, LOG, ROWS, 2, store_words(), store_marks(), ROWS, 53);
-    refuse_score(0, UINT64_MAX, 0, UINT32_MAX, lend(NULL, 0), lend(NULL, 0), 0, 53);
-    refuse_score(512, LOG, ROWS, 0, store_words(), store_marks(), ROWS, 1);
-    refuse_score(MEMORY, LOG, 0, 0, store_words(), store_marks(), ROWS, 2);
-    refuse_score(MEMORY, LOG, 4097, 1, store_words(), store_marks(), ROWS, 2);
-    refuse_score(MEMORY, LOG, UINT64_MAX, 1, store_words(), store_marks(), ROWS, 2);
-    refuse_score(MEMORY, 65537, ROWS, 1, store_words(), store_marks(), ROWS, 4);
-    refuse_score(MEMORY, LOG, ROWS - 1, 1, store_words(), store_marks(), ROWS - 1, 5);
-    refuse_score(MEMORY, LOG, ROWS, 1, store_words(), store_marks(), ROWS - 1, 5);
-    refuse_score(MEMORY, LOG, ROWS, 1, store_words(), store_marks(), ROWS + 1, 5);
-    refuse_score(MEMORY, LOG, ROWS, 1, store_words(), store_marks(), 0, 5);
-    refuse_score(MEMORY, LOG, ROWS, 1, lend(rows_words, sizeof rows_words - 8), store_marks(), ROWS, 5);
-    refuse_score(MEMORY, LOG, ROWS, 1, store_words(), lend(rows_marks, sizeof rows_marks - 1), ROWS, 5);
+    for (size_t i = 0; i < sizeof scorings / sizeof *scorings; i++)
+        refuse_score(scorings[i], lend(rows_words, 8 * scorings[i].words), lend(rows_marks, scorings[i].marks));
+    /* a damaged row; every other time with a wrong table, whose number comes first */
     for (size_t i = 0; i < sizeof damages / sizeof *damages; i++)
         for (size_t r = 0; r < ROWS; r++) {
+            int fits = (i + r) % 2;
             block words = store_words(), marks = store_marks();
             damage_row((uint64_t *)words.lent + r * WORDS, (uint8_t *)marks.lent + r * MARKS, damages[i]);
             memcpy(words.copy, words.lent, words.bytes);
             memcpy(marks.copy, marks.lent, marks.bytes);
-            refuse_score(MEMORY, LOG, ROWS, i % 2, words, marks, ROWS, 9);
+            refuse_score(
+                (scoring){MEMORY, LOG, ROWS, i % 2, ALL_WORDS, ALL_MARKS, fits ? TABLE : TABLE - 1, ROWS, 9, fits ? 9 : 32}, words, marks);
         }
+}
+
+/* Eight for each pc and each marked word. */
+static uint64_t increments(void)
+{
+    uint64_t words = ROWS;
+    for (size_t i = 0; i < sizeof rows_marks; i++)
+        words += rows_marks[i];
+    return 8 * words;
 }
 
 static void accept_score(void)
 {
     for (uint32_t mean = TAVVINUR_ARITHMETIC; mean <= TAVVINUR_HARMONIC; mean++) {
-        block words = store_words(), marks = store_marks(), scores = lend(NULL, 8 * ROWS);
+        block words = store_words(), marks = store_marks(), table = lend(NULL, 4 * TABLE), scores = lend(NULL, 8 * ROWS);
         assert(
-            tavvinur_score(words.lent, ROWS * WORDS, marks.lent, ROWS * MARKS, MEMORY, LOG, ROWS, mean, scores.lent, ROWS) == 0);
+            tavvinur_score(words.lent, ALL_WORDS, marks.lent, ALL_MARKS, MEMORY, LOG, ROWS, mean, scores.lent, ROWS) == 0);
         const double *s = scores.lent;
         /* three rows that are the same */
         assert(s[0] >= ROWS && s[0] == s[1] && s[1] == s[2]);
-        cases++;
-        is_kept(words), is_kept(marks), drop(scores);
+        tavvinur_scored scored = tavvinur_score_by_table(
+            words.lent, ALL_WORDS, marks.lent, ALL_MARKS, MEMORY, LOG, ROWS, mean, table.lent, TABLE, scores.copy, ROWS);
+        assert(scored.number == 0 && scored.increments == increments());
+        cases += 2;
+        /* the same scores, to the last bit */
+        is_kept(scores), is_kept(words), is_kept(marks), is_zeroed(table);
     }
 }
 
@@ -303,16 +353,45 @@ static void accept_score(void)
 
 static const tavvinur_options good = {MEMORY, ROWS, 10, 1, 1, TAVVINUR_HARMONIC, 0.5};
 
-static void refuse_search(tavvinur_options o, uint64_t log, size_t n, size_t m, uint64_t address, size_t code, size_t data, uint64_t number)
+/* What is told and lent. */
+typedef struct {
+    tavvinur_options options;
+    uint64_t log;
+    size_t words, marks, table;
+    uint64_t address;
+    size_t code, data;
+} searching;
+
+/* Both numbers are given; without a table 0 where the other search alone is refused. */
+static void refuse_search(searching s, uint64_t number, uint64_t by_table)
 {
-    block words = lend(NULL, 8 * n), marks = lend(NULL, m), c = lend(NULL, code), d = lend(NULL, data), tape = lend(NULL, 16);
-    is_refused(tavvinur_search(words.lent, n, marks.lent, m, o, log, address, c.lent, code, DATA, d.lent, data, tape.lent, 2), number);
-    is_kept(words), is_kept(marks), is_kept(c), is_kept(d), is_kept(tape);
+    block words = lend(NULL, 8 * s.words), marks = lend(NULL, s.marks), table = lend(NULL, 4 * s.table);
+    block code = lend(NULL, s.code), data = lend(NULL, s.data), tape = lend(NULL, 16);
+    if (number)
+        is_refused(
+            tavvinur_search(
+                words.lent, s.words, marks.lent, s.marks, s.options, s.log, s.address, code.lent, s.code, DATA, data.lent, s.data,
+                tape.lent, 2),
+            number);
+    is_refused(
+        tavvinur_search_by_table(
+            words.lent, s.words, marks.lent, s.marks, table.lent, s.table, s.options, s.log, s.address, code.lent, s.code, DATA,
+            data.lent, s.data, tape.lent, 2),
+        by_table);
+    is_kept(words), is_kept(marks), is_kept(table), is_kept(code), is_kept(data), is_kept(tape);
 }
+
+static searching asked(tavvinur_options o) { return (searching){o, LOG, ALL_WORDS, ALL_MARKS, TABLE, 0, 8, 8}; }
 
 static void refuse_option(tavvinur_options o, uint64_t number)
 {
-    refuse_search(o, LOG, ROWS * WORDS, ROWS * MARKS, 0, 8, 8, number);
+    refuse_search(asked(o), number, number);
+}
+
+/* So many words, marks and counters, so many bytes of code at an address, and so many of data. */
+static searching lending(size_t words, size_t marks, size_t table, uint64_t address, size_t code, size_t data)
+{
+    return (searching){good, LOG, words, marks, table, address, code, data};
 }
 
 static tavvinur_options with_memory(uint64_t memory) { tavvinur_options o = good; o.memory_size = memory; return o; }
@@ -320,11 +399,9 @@ static tavvinur_options with_states(uint64_t states) { tavvinur_options o = good
 static tavvinur_options with_ratio(double ratio) { tavvinur_options o = good; o.copy_init_ratio = ratio; return o; }
 static tavvinur_options with_mean(uint32_t mean) { tavvinur_options o = good; o.mean = mean; return o; }
 
-static void refuse_searches(void)
+static void refuse_options(void)
 {
     refuse_option(with_mean(2), 53);
-    refuse_search((tavvinur_options){0, 0, 0, 0, 0, UINT32_MAX, NAN}, UINT64_MAX, 0, 0, UINT64_MAX, 7, 7, 53);
-    refuse_search((tavvinur_options){0, 0, 0, 0, 0, 0, NAN}, UINT64_MAX, 0, 0, UINT64_MAX, 7, 7, 1);
     refuse_option(with_memory(MEMORY + 8), 1);
     refuse_option(with_memory(UINT64_MAX), 1);
     refuse_option(with_states(0), 2);
@@ -334,41 +411,64 @@ static void refuse_searches(void)
     refuse_option(with_ratio(1.0000000000000002), 3);
     refuse_option(with_ratio(NAN), 3);
     refuse_option(with_ratio(INFINITY), 3);
-    refuse_search(good, 65537, ROWS * WORDS, ROWS * MARKS, 0, 8, 8, 4);
     refuse_option(with_states(ROWS + 1), 5);
-    refuse_search(good, LOG, ROWS * WORDS - 1, ROWS * MARKS, 0, 8, 8, 5);
-    refuse_search(good, LOG, ROWS * WORDS + 1, ROWS * MARKS, 0, 8, 8, 5);
-    refuse_search(good, LOG, ROWS * WORDS, ROWS * MARKS - 1, 0, 8, 8, 5);
-    refuse_search(good, LOG, ROWS * WORDS, ROWS * MARKS + 1, 0, 8, 8, 5);
-    refuse_search(good, LOG, 0, 0, 0, 7, 8, 5);
-    refuse_search(good, LOG, ROWS * WORDS, ROWS * MARKS, UINT64_MAX, 9, 8, 6);
-    refuse_search(good, LOG, ROWS * WORDS, ROWS * MARKS, 0, 8, 1, 6);
-    refuse_search(good, LOG, ROWS * WORDS, ROWS * MARKS, MEMORY, 8, 8, 7);
-    refuse_search(good, LOG, ROWS * WORDS, ROWS * MARKS, 0, 8, MEMORY, 7);
+    refuse_search((searching){{0, 0, 0, 0, 0, UINT32_MAX, NAN}, UINT64_MAX, 0, 0, 0, UINT64_MAX, 7, 7}, 53, 53);
+    refuse_search((searching){{0, 0, 0, 0, 0, 0, NAN}, UINT64_MAX, 0, 0, 0, UINT64_MAX, 7, 7}, 1, 1);
+    refuse_search((searching){good, 65537, ALL_WORDS, ALL_MARKS, TABLE, 0, 8, 8}, 4, 4);
+    refuse_search((searching){good, 65537, ALL_WORDS, ALL_MARKS, 0, 0, 8, 8}, 4, 4);
 }
 
-static void accept_search(void)
+static void refuse_lengths(void)
 {
-    block words = lend(NULL, 8 * ROWS * WORDS), marks = lend(NULL, ROWS * MARKS);
+    refuse_search(lending(ALL_WORDS - 1, ALL_MARKS, TABLE, 0, 8, 8), 5, 5);
+    refuse_search(lending(ALL_WORDS + 1, ALL_MARKS, TABLE - 1, 0, 8, 8), 5, 5);
+    refuse_search(lending(ALL_WORDS, ALL_MARKS - 1, TABLE + 1, 0, 8, 8), 5, 5);
+    refuse_search(lending(ALL_WORDS, ALL_MARKS + 1, 0, 0, 8, 8), 5, 5);
+    refuse_search(lending(0, 0, 0, 0, 7, 8), 5, 5);
+    refuse_search(lending(ALL_WORDS, ALL_MARKS, TABLE - 1, 0, 8, 8), 0, 32);
+    refuse_search(lending(ALL_WORDS, ALL_MARKS, TABLE + 1, 0, 8, 8), 0, 32);
+    refuse_search(lending(ALL_WORDS, ALL_MARKS, 0, 0, 8, 8), 0, 32);
+    refuse_search(lending(ALL_WORDS, ALL_MARKS, TABLE, UINT64_MAX, 9, 8), 6, 6);
+    refuse_search(lending(ALL_WORDS, ALL_MARKS, TABLE, 0, 8, 1), 6, 6);
+    refuse_search(lending(ALL_WORDS, ALL_MARKS, TABLE - 1, 0, 8, 1), 6, 32);
+    refuse_search(lending(ALL_WORDS, ALL_MARKS, TABLE, MEMORY, 8, 8), 7, 7);
+    refuse_search(lending(ALL_WORDS, ALL_MARKS, TABLE, 0, 8, MEMORY), 7, 7);
+    refuse_search(lending(ALL_WORDS, ALL_MARKS, 0, MEMORY, 8, 8), 7, 32);
+}
+
+/* A search of the printer without keys: both ways answer the same and leave the same store. */
+static tavvinur_answer accepted(tavvinur_options o)
+{
+    block words = lend(NULL, 8 * ALL_WORDS), marks = lend(NULL, ALL_MARKS), table = lend(NULL, 4 * TABLE);
     block code = lend(servings_code, sizeof servings_code), data = lend(servings_data, sizeof servings_data), tape = lend(NULL, 0);
-    tavvinur_options o = with_ratio(-0.0);
     tavvinur_answer a = tavvinur_search(
-        words.lent, ROWS * WORDS, marks.lent, ROWS * MARKS, o, LOG, 0, code.lent, code.bytes, DATA, data.lent, data.bytes, tape.lent, 0);
+        words.lent, ALL_WORDS, marks.lent, ALL_MARKS, o, LOG, 0, code.lent, code.bytes, DATA, data.lent, data.bytes, tape.lent, 0);
+    tavvinur_answer b = tavvinur_search_by_table(
+        words.copy, ALL_WORDS, marks.copy, ALL_MARKS, table.lent, TABLE, o, LOG, 0, code.lent, code.bytes, DATA, data.lent, data.bytes,
+        tape.lent, 0);
+    assert(memcmp(&a, &b, sizeof a) == 0);
+    cases += 2;
+    is_kept(words), is_kept(marks), is_zeroed(table), is_kept(code), is_kept(data), is_kept(tape);
+    return a;
+}
+
+static void accept_searches(void)
+{
+    tavvinur_options o = with_ratio(-0.0);
+    tavvinur_answer a = accepted(o);
     assert(a.number == 44 && a.row == 0 && a.pc == 32 && a.value == 0 && a.used == 0);
     /* a round in which nothing ends, and one whose copies find no tape */
     o = with_ratio(1.0);
     o.step_size = 3;
     o.iterations = 2;
-    a = tavvinur_search(
-        words.lent, ROWS * WORDS, marks.lent, ROWS * MARKS, o, LOG, 0, code.lent, code.bytes, DATA, data.lent, data.bytes, tape.lent, 0);
+    a = accepted(o);
     assert(a.number == 8 && a.used == 0);
     o.iterations = 1;
-    a = tavvinur_search(
-        words.lent, ROWS * WORDS, marks.lent, ROWS * MARKS, o, LOG, 0, code.lent, code.bytes, DATA, data.lent, data.bytes, tape.lent, 0);
+    a = accepted(o);
     assert(a.number == 0 && a.used == 0);
-    cases += 3;
-    is_kept(code), is_kept(data), is_kept(tape);
-    drop(words), drop(marks);
+    o.iterations = 0;
+    a = accepted(o);
+    assert(a.number == 0 && a.used == 0);
 }
 
 static void check_defaults(void)
@@ -390,8 +490,9 @@ int main(void)
     accept_runs();
     refuse_scores();
     accept_score();
-    refuse_searches();
-    accept_search();
+    refuse_options();
+    refuse_lengths();
+    accept_searches();
     check_defaults();
     printf("damaged: %u calls, each answered as it must be, with what was lent unchanged where it was refused\n", cases);
     return 0;

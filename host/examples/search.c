@@ -39,10 +39,12 @@ int main(int argc, char **argv)
     size_t states = argc > 1 ? strtoul(argv[1], NULL, 10) : 300;
     size_t words_length = states * tavvinur_row_words(MEMORY, LOG);
     size_t marks_length = states * tavvinur_row_marks(MEMORY);
+    size_t table_length = tavvinur_table_length(MEMORY);
     uint64_t *words = calloc(words_length, sizeof *words);
     uint8_t *marks = calloc(marks_length, 1);
+    uint32_t *table = calloc(table_length, sizeof *table);
     uint64_t *tape = malloc(TAPE * sizeof *tape);
-    if (!words || !marks || !tape) {
+    if (!words || !marks || !table || !tape) {
         fprintf(stderr, "no memory\n");
         return 2;
     }
@@ -57,15 +59,16 @@ int main(int argc, char **argv)
     tavvinur_answer answer = {0};
     for (uint32_t rounds = 1; rounds <= MOST_ROUNDS && answer.number == 0; rounds *= 2) {
         options.iterations = rounds;
-        answer = tavvinur_search(
-            words, words_length, marks, marks_length, options, LOG, 0, servings_code, sizeof servings_code, DATA_ADDRESS, servings_data,
-            sizeof servings_data, tape, TAPE);
+        answer = tavvinur_search_by_table(
+            words, words_length, marks, marks_length, table, table_length, options, LOG, 0, servings_code, sizeof servings_code,
+            DATA_ADDRESS, servings_data, sizeof servings_data, tape, TAPE);
         printf("rounds %" PRIu32 ": answer %" PRIu64 ", %" PRIu64 " words used\n", rounds, answer.number, answer.used);
         fflush(stdout);
     }
     print_answer(answer, words);
 
     free(tape);
+    free(table);
     free(marks);
     free(words);
     return answer.number == 0 || answer.number == 41 ? 0 : 1;

@@ -7,7 +7,8 @@ mod tavvinur;
 mod servings;
 
 use std::process::exit;
-use tavvinur::{inputs, row_marks, row_words, search, Answer, Options, Program};
+use tavvinur::{inputs, row_marks, row_words, search_by_table, table_length};
+use tavvinur::{Answer, Options, Program};
 
 const MEMORY: u64 = 65_536;
 const STATES: u64 = 300;
@@ -50,6 +51,7 @@ fn print(answer: &Answer, words: &[u64]) {
 fn main() {
     let mut words = vec![0; STATES as usize * row_words(MEMORY, LOG)];
     let mut marks = vec![0; STATES as usize * row_marks(MEMORY)];
+    let mut table = vec![0; table_length(MEMORY)];
     let tape = tape(TAPE);
 
     let mut options = Options {
@@ -62,7 +64,9 @@ fn main() {
     };
 
     let answer = loop {
-        let answer = search(&mut words, &mut marks, &options, LOG, &PROGRAM, &tape);
+        let answer = search_by_table(
+            &mut words, &mut marks, &mut table, &options, LOG, &PROGRAM, &tape,
+        );
         println!(
             "rounds {}: answer {}, {} words used",
             options.iterations, answer.number, answer.used

@@ -1,5 +1,5 @@
-//! A sheet of any size: reads one from standard input, searches with the library, and prints what the bench program prints for a sheet
-//! within its limits. With --store, digests of the store that the search leaves follow, unless the sheet is refused.
+//! A sheet of any size: reads one from standard input, searches with the library, which counts in a table, and prints what the bench program
+//! prints for a sheet within its limits. With --store, digests of the store that the search leaves follow, unless the sheet is refused.
 //!
 //! With --order, the sheet's program is run at the counter instead, on its tape as the order and for at most its step, with its memory and
 //! its log; states, selection, rounds and ratio have no part in that. The answer is printed, with the input words taken and the bytes
@@ -19,7 +19,8 @@ use std::{
     process::exit,
 };
 use tavvinur::{
-    inputs, row_marks, row_words, run_program, search, Answer, Options, Printed, Program,
+    inputs, row_marks, row_words, run_program, search_by_table, table_length, Answer, Options,
+    Printed, Program,
 };
 
 const FIELD_BYTES: usize = 128;
@@ -114,6 +115,14 @@ fn store(options: &Options, log: u64) -> (Vec<u64>, Vec<u8>) {
     )
 }
 
+/// The table that these options ask for; none where the library refuses them anyway.
+fn table(options: &Options) -> Vec<u32> {
+    match options.memory_size {
+        memory if memory > MOST_MEMORY => Vec::new(),
+        memory => vec![0; table_length(memory)],
+    }
+}
+
 fn lines(answer: &Answer, inputs: &[u64]) -> String {
     let mut text = format!(
         "answer {} row {} pc {} value {}\n",
@@ -162,7 +171,12 @@ fn searched(sheet: &Sheet, with_store: bool) -> String {
         tape,
     } = sheet;
     let (mut words, mut marks) = store(options, *log);
-    let answer = search(&mut words, &mut marks, options, *log, program, tape);
+    let mut table = table(options);
+    let answer = search_by_table(
+        &mut words, &mut marks, &mut table, options, *log, program, tape,
+    );
+    let is_zero = table.iter().all(|counter| *counter == 0);
+    assert!(is_zero, "the library leaves the table zero");
     if (1..=7).contains(&answer.number) {
         return refused(answer.number);
     }

@@ -76,6 +76,13 @@ pub struct Printed {
     pub written: u64,
 }
 
+/// What a scoring in a table answers.
+#[repr(C)]
+struct Scored {
+    number: u64,
+    increments: u64,
+}
+
 /// The number by which a call was refused, or 31 from a scoring.
 #[derive(Debug, Clone, Copy, PartialEq, Eq)]
 pub struct Refused(pub u64);
@@ -97,6 +104,13 @@ pub fn row_words(memory: u64, log: u64) -> usize {
 /// The marks of a row with so many bytes of memory.
 pub fn row_marks(memory: u64) -> usize {
     (32 + memory / 8) as usize
+}
+
+/// The counters of a table to count in, for rows with so many bytes of memory. A call that is not refused leaves all of a table 0; one that is
+/// refused leaves it as it was. What is 0 is not written: of a table fresh from the system (`vec![0; ..]`) the pages in which nothing is counted
+/// stay unmapped, and take no memory.
+pub fn table_length(memory: u64) -> usize {
+    (256 * (memory / 8 + 320)) as usize
 }
 
 /// What the row of a store has read, in order; for rows that the library left.
@@ -227,6 +241,39 @@ pub fn score(
     })
 }
 
+/// The same scores, counted in a lent table of [`table_length`] counters, whatever they were. Gives the number of increments: 8 for each
+/// marked word and each pc of the rows.
+#[allow(clippy::too_many_arguments)]
+pub fn score_by_table(
+    words: &[u64],
+    marks: &[u8],
+    memory: u64,
+    log: u64,
+    rows: u64,
+    mean: u32,
+    table: &mut [u32],
+    scores: &mut [f64],
+) -> Result<u64, Refused> {
+    // as in `new_executor`
+    let scored = unsafe {
+        tavvinur_score_by_table(
+            words.as_ptr(),
+            words.len(),
+            marks.as_ptr(),
+            marks.len(),
+            memory,
+            log,
+            rows,
+            mean,
+            table.as_mut_ptr(),
+            table.len(),
+            scores.as_mut_ptr(),
+            scores.len(),
+        )
+    };
+    told(scored.number).map(|()| scored.increments)
+}
+
 /// Searches a program for bugs in a lent store, which an accepted call zeroes first.
 pub fn search(
     words: &mut [u64],
@@ -243,6 +290,39 @@ pub fn search(
             words.len(),
             marks.as_mut_ptr(),
             marks.len(),
+            *options,
+            log,
+            program.code_address,
+            program.code.as_ptr(),
+            program.code.len(),
+            program.data_address,
+            program.data.as_ptr(),
+            program.data.len(),
+            tape.as_ptr(),
+            tape.len(),
+        )
+    }
+}
+
+/// The same search, which counts in a lent table of [`table_length`] counters, whatever they were.
+pub fn search_by_table(
+    words: &mut [u64],
+    marks: &mut [u8],
+    table: &mut [u32],
+    options: &Options,
+    log: u64,
+    program: &Program,
+    tape: &[u64],
+) -> Answer {
+    // as in `new_executor`
+    unsafe {
+        tavvinur_search_by_table(
+            words.as_mut_ptr(),
+            words.len(),
+            marks.as_mut_ptr(),
+            marks.len(),
+            table.as_mut_ptr(),
+            table.len(),
             *options,
             log,
             program.code_address,
@@ -327,11 +407,45 @@ extern "C" {
         scores_length: usize,
     ) -> u64;
 
+    fn tavvinur_score_by_table(
+        words: *const u64,
+        words_length: usize,
+        marks: *const u8,
+        marks_length: usize,
+        memory: u64,
+        log: u64,
+        rows: u64,
+        mean: u32,
+        table: *mut u32,
+        table_length: usize,
+        scores: *mut f64,
+        scores_length: usize,
+    ) -> Scored;
+
     fn tavvinur_search(
         words: *mut u64,
         words_length: usize,
         marks: *mut u8,
         marks_length: usize,
+        options: Options,
+        log: u64,
+        code_address: u64,
+        code: *const u8,
+        code_length: usize,
+        data_address: u64,
+        data: *const u8,
+        data_length: usize,
+        tape: *const u64,
+        tape_length: usize,
+    ) -> Answer;
+
+    fn tavvinur_search_by_table(
+        words: *mut u64,
+        words_length: usize,
+        marks: *mut u8,
+        marks_length: usize,
+        table: *mut u32,
+        table_length: usize,
         options: Options,
         log: u64,
         code_address: u64,

@@ -5,7 +5,7 @@ use Rattle.std.specs.Float.Ieee.{of_int, le}
 use Rattle.rows.specs.Limits.{most_rows, memory_unit, most_memory_bytes, most_log}
 use Rattle.rows.specs.Rows.{row_words, row_marks}
 use Rattle.checks.specs.declared.refusal.Refusal.{Refusal}
-use Rattle.checks.specs.declared.refusal.Refusal.TheVariants.{MemorySize, AmountOfStates, CopyRatio, LogSize, LentLengths, SegmentLength, SegmentEnd, InvalidRow}
+use Rattle.checks.specs.declared.refusal.Refusal.TheVariants.{MemorySize, AmountOfStates, CopyRatio, LogSize, LentLengths, TableLength, SegmentLength, SegmentEnd, InvalidRow}
 
 abbrev pub refusal_number : Refusal → ℕ
 refusal_number MemorySize = 1
@@ -13,6 +13,7 @@ refusal_number AmountOfStates = 2
 refusal_number CopyRatio = 3
 refusal_number LogSize = 4
 refusal_number LentLengths = 5
+refusal_number TableLength = 32
 refusal_number SegmentLength = 6
 refusal_number SegmentEnd = 7
 refusal_number InvalidRow = 9

@@ -1,4 +1,4 @@
-// Refusals by number, and the tests for all but 9.
+// Refusals by number, and the tests for all but 9 and 32.
 ghost use Rattle.std.specs.Prelude.{◌≡◌, ◌≤◌, [], ◌∷◌};
 ghost use Rattle.rows.specs.Limits.{most_rows, most_memory, most_log};
 ghost use Rattle.checks.specs.Refusals.{refusal_number, checked_number, is_memory_size, is_amount_of_states, is_copy_ratio};
@@ -16,6 +16,7 @@ pub enum Refusal {
     CopyRatio = 3,
     LogSize = 4,
     LentLengths = 5,
+    TableLength = 32,
     SegmentLength = 6,
     SegmentEnd = 7,
     InvalidRow = 9,

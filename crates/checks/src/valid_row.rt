@@ -1,5 +1,5 @@
 // Number 9: whether a lent row is one that an executor can have.
-ghost use Rattle.std.specs.Prelude.{◌≡◌, ◌+◌, ◌≤◌, length, drop};
+ghost use Rattle.std.specs.Prelude.{◌≡◌, ◌+◌, ◌≤◌, eqb, length, drop};
 ghost use Rattle.rows.specs.Lent.{seen};
 ghost use Rattle.rows.specs.Valid.{slot_valid, slots_valid, all_zero, zero_register, sound_row, valid_row};
 
@@ -8,12 +8,15 @@ use rows::row::{HEADER, LIMIT, LOG_COUNT, RowRef};
 // The largest limit from which a run of any 32-bit number of instructions can start.
 const MOST_LIMIT: u64 = 0x8000_0000_0000_0000;
 
-fn slot_valid(word: u64, mark: u8) -> bool
-    ensures { result ≡ slot_valid word mark }
+// What is wrong with a slot: 0 where nothing is.
+fn slot_fault(word: u64, mark: u8) -> u64
+    ensures { eqb result 0 ≡ slot_valid word mark }
 {
-    if mark == 0 { word == 0 } else { mark == 1 }
+    if mark == 0 { word } else { u64::from(mark ^ 1) }
 }
 
+// Nearly every row is right. So the two loops below look at all of it rather than leave at the first fault: that way the compiler takes
+// several slots at a time.
 fn slots_valid(slots: &[u64], marks: &[u8]) -> bool
     requires { length marks.now ≤ length slots.now }
     ensures { result ≡ slots_valid slots.now marks.now }
@@ -21,13 +24,14 @@ fn slots_valid(slots: &[u64], marks: &[u8]) -> bool
     slots
         .iter()
         .zip(marks)
-        .all(|(word, mark)| slot_valid(*word, *mark))
+        .fold(0, |fault, (word, mark)| fault | slot_fault(*word, *mark))
+        == 0
 }
 
 fn all_zero(words: &[u64]) -> bool
     ensures { result ≡ all_zero words.now }
 {
-    words.iter().all(|word| *word == 0)
+    words.iter().fold(0, |any, word| any | *word) == 0
 }
 
 fn zero_register(row: RowRef) -> bool

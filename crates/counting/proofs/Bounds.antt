@@ -8,7 +8,7 @@ use Rattle.counting.specs.Cells.{place_at, places, address_of, byte_addresses, w
 use Rattle.counting.specs.Counters.{occurrences, counter_in}
 use Rattle.counting.proofs.Probes.{occurrences_most}
 
-bytes_length : (place x b : ℕ) → length (byte_addresses place x b) ≡ b
+pub bytes_length : (place x b : ℕ) → length (byte_addresses place x b) ≡ b
 unfolding byte_addresses
 bytes_length place x zero = refl
 bytes_length place x (suc b) = length-append (byte_addresses place x b) (_ ∷ []) ∙ ap (λ (z : ℕ). z + 1) (bytes_length place x b) ∙ add-one b

@@ -3,3 +3,4 @@ pub mod Probes
 pub mod Counts
 pub mod Examples
 pub mod Bounds
+pub mod Members

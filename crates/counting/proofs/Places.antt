@@ -1,5 +1,5 @@
 -- The places of a row and the cells of their lowest bytes: a place is found at its base, and only there.
-use Rattle.std.proofs.Common.{◌≡◌, ℕ, zero, suc, ◌+◌, ◌-◌, ◌<◌, ◌≤◌, Bool, true, false, cond, eqb, ltb, Some, None, refl, sym, ap, ◌∙◌, arith, ltb-true, ltb-false, eqb-true, lt-ltb, le-ltb, ne_eqb}
+use Rattle.std.proofs.Common.{◌≡◌, ℕ, zero, suc, ◌+◌, ◌-◌, ◌<◌, ◌≤◌, Bool, true, false, cond, eqb, ltb, Some, None, refl, sym, ap, ◌∙◌, arith, lit≤, ltb-true, ltb-false, eqb-true, lt-ltb, le-ltb, ne_eqb}
 use Rattle.counting.specs.Cells.{first_memory_place, first_register_cell, first_memory_cell, base_of}
 use Rattle.counting.specs.Probes.{place_of}
 
@@ -73,3 +73,13 @@ base_place base place h = go (eqb base 0) (ltb base first_register_cell) (ltb (b
         let at : first_memory_place + (base - first_memory_cell) ≡ place = cc in
         let l : first_memory_cell ≤ base = ltb-false base first_memory_cell gap? in
         ap base_of (omega arith) ∙ base_memory (32 + (base - first_memory_cell)) (omega arith) ∙ omega arith
+
+-- a place's cells are within a usize
+pub base_most : (place : ℕ) → base_of place ≤ first_memory_cell + place
+unfolding base_of
+base_most zero = lit≤ tt
+base_most (suc n) = either (ltb n 32)
+  where
+    either : (t : Bool) → cond t (first_register_cell + n) (first_memory_cell + (n - 32)) ≤ first_memory_cell + suc n
+    either true = omega arith
+    either false = omega arith

@@ -2,7 +2,7 @@
 ghost use Rattle.std.specs.Prelude.{◌≡◌, ◌≤◌, ◌<◌, length};
 ghost use Rattle.rows.specs.Lent.{seen};
 ghost use Rattle.store.specs.Store.{most_marks};
-ghost use Rattle.counting.specs.Cells.{place_at, base_of, address_of, addresses_of};
+ghost use Rattle.counting.specs.Cells.{place_at, base_of, cell_of, address_of, addresses_of};
 ghost use Rattle.counting.specs.Counters.{occurrences};
 ghost use Rattle.counting.specs.Probes.{place_of, probe};
 
@@ -35,7 +35,7 @@ pub fn place_at(row: RowRef, place: usize) -> Value
 
 // The cell of a place's lowest byte.
 #[tactic(auto, using(crate::proofs::Places::base_zero, crate::proofs::Places::base_slot))]
-pub fn base_of(place: usize) -> usize
+fn base_of(place: usize) -> usize
     requires { place ≤ most_marks }
     ensures { result ≡ base_of place }
 {
@@ -48,6 +48,16 @@ pub fn base_of(place: usize) -> usize
     } else {
         FIRST_MEMORY_CELL + (slot - REGISTERS)
     }
+}
+
+// The cell of byte b of a place's word.
+#[tactic(auto, using(crate::proofs::Places::base_most))]
+pub fn cell_of(place: usize, b: u64) -> usize
+    requires place { place ≤ most_marks }
+    requires byte { b < 8 }
+    ensures { result ≡ cell_of place b }
+{
+    base_of(place) + BYTE_STRIDE * (b as usize)
 }
 
 // The place whose lowest byte is in a cell: one at most.

@@ -1,5 +1,5 @@
 -- The rows that take part, at most all rows, and where all flags are set just these; and the scores of rows among them.
-use Rattle.std.proofs.Common.{◌≡◌, refl, ap, ◌∙◌, Bool, true, false, cond, List, [], ◌∷◌, map, ℕ, zero, suc, ◌≤◌, ◌<◌, le_of_suc-le-suc, not-suc-le-zero, arith, lit≤, Float, length, get_or, replicate}
+use Rattle.std.proofs.Common.{◌≡◌, refl, ap, ◌∙◌, Bool, true, false, cond, List, [], ◌∷◌, map, ℕ, zero, suc, ◌<◌, le_of_suc-le-suc, not-suc-le-zero, arith, Float, length, get_or, replicate}
 use lib.Ieee.{nan}
 use Rattle.rows.specs.Rows.{Row}
 use Rattle.store.specs.Store.{nth_row}
@@ -8,14 +8,7 @@ use Rattle.means.specs.Means.{whole}
 use Rattle.counting.specs.Counters.{taking}
 use Rattle.rarity.specs.Scores.{score, scores_of, scores_among, flagged_scores}
 
-pub taking_length : (flags : List Bool) (rows : List Row) → length (taking flags rows) ≤ length rows
-unfolding taking
-taking_length [] rows = omega arith
-taking_length (f ∷ fs) [] = lit≤ tt
-taking_length (true ∷ fs) (r ∷ rows) = omega (arith, taking_length fs rows)
-taking_length (false ∷ fs) (r ∷ rows) = omega (arith, taking_length fs rows)
-
-taking_all : (rows : List Row) (n : ℕ) → length rows ≡ n → taking (replicate n true) rows ≡ rows
+pub taking_all : (rows : List Row) (n : ℕ) → length rows ≡ n → taking (replicate n true) rows ≡ rows
 unfolding taking
 taking_all [] zero e = refl
 taking_all [] (suc n) e = refl

@@ -1,3 +1,4 @@
 pub mod Among
-pub mod Turns
 pub mod Bounds
+pub mod Same
+pub mod Turns

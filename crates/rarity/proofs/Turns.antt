@@ -1,8 +1,8 @@
 -- One turn of each loop of this crate.
-use Rattle.std.proofs.Common.{◌≡◌, sym, ap, ◌∙◌, subst, Bool, true, false, cond, List, [], ◌∷◌, ◌++◌, map, append_assoc, append-nil, ℕ, zero, suc, ◌+◌, ◌-◌, ◌*◌, ◌≤◌, ◌<◌, add-one, arith, ltb, lit≤, length, get_or, set, take, length-set, take-suc, take-suc-set, take_all, Float}
+use Rattle.std.proofs.Common.{◌≡◌, refl, sym, ap, ◌∙◌, subst, Bool, true, false, cond, List, [], ◌++◌, map, append-nil, ℕ, ◌+◌, ◌*◌, ◌≤◌, ◌<◌, add-one, arith, lit≤, length, get_or, set, take, length-set, take-suc, take-suc-set, take_all, Float}
 use mathlib.Core.List.{map-append}
 use lib.Ieee.{nan}
-use Rattle.values.specs.Values.{byte_of}
+use Rattle.std.specs.Float.Ieee.{of_bits, binary64, of_int}
 use Rattle.values.specs.declared.Value.{Value}
 use Rattle.values.specs.declared.Value.TheVariants.{Concrete, Uninitialized}
 use Rattle.rows.specs.Rows.{Row}
@@ -12,49 +12,13 @@ use Rattle.store.proofs.Rows.{lent_row, lent_marks}
 use Rattle.means.specs.declared.MeanType.{MeanType}
 use Rattle.means.specs.declared.Tally.{Tally}
 use Rattle.means.specs.Means.{whole, sum}
-use Rattle.means.specs.Tallies.{tally, with_counter, Within, most_counters}
-use Rattle.means.proofs.Taking.{tally_more}
-use Rattle.counting.specs.Cells.{first_register_cell, first_memory_cell, place_at, base_of, cell_of, address_of, byte_addresses, word_addresses, addresses_to}
-use Rattle.counting.specs.Counters.{highest_counter, counter_in, counters_of, taking}
+use Rattle.means.specs.Tallies.{tally, Within, most_counters}
+use Rattle.counting.specs.Cells.{place_at, byte_addresses, word_addresses, addresses_to}
+use Rattle.counting.specs.Counters.{counter_in, counters_of, taking}
 use Rattle.rarity.proofs.Among.{score_at, scores_length}
-use Rattle.rarity.specs.Taken.{Taken}
+use Rattle.tables.specs.Taken.{Taken}
+use Rattle.tables.proofs.Taking.{within_looser}
 use Rattle.rarity.specs.Scores.{score, flagged_scores}
-
--- one counter more keeps a tally small
-pub within_more : {n m c : ℕ} {t u : Tally} → Within n t → c ≤ highest_counter → u ≡ with_counter t c → n < m → Within m u
-within_more {n} {m} w h e l = subst (Within m) (sym e) (record { few = omega (arith, w.few); small = omega (arith, w.small) })
-
-pub within_looser : {n m : ℕ} {t : Tally} → Within n t → n ≤ m → Within m t
-within_looser w l = record { few = omega (arith, w.few); small = w.small }
-
--- a place's cells are within a usize
-pub base_most : (place : ℕ) → base_of place ≤ first_memory_cell + place
-unfolding base_of
-base_most zero = lit≤ tt
-base_most (suc n) = either (ltb n 32)
-  where
-    either : (t : Bool) → cond t (first_register_cell + n) (first_memory_cell + (n - 32)) ≤ first_memory_cell + suc n
-    either true = omega arith
-    either false = omega arith
-
--- the bytes of a word
-pub bytes_none : (rows : List Row) (s : Tally) (place x : ℕ) → Taken rows s (byte_addresses place x 0) s
-unfolding byte_addresses
-bytes_none rows s place x = record { taken = λ cs e. e ∙ ap tally (sym (append-nil cs)) }
-
-pub bytes_turn : {rows : List Row} {s t u : Tally} {base byte c : ℕ} (place x b : ℕ) → Taken rows s (byte_addresses place x b) t
-    → base ≡ base_of place → byte ≡ byte_of x b → c ≡ counter_in rows (address_of (base + 8 * b) byte) → u ≡ with_counter t c
-    → Taken rows s (byte_addresses place x (b + 1)) u
-unfolding byte_addresses
-bytes_turn {rows} {s} {t} {u} {base} {byte} {c} place x b k p q d e =
-    let f = counter_in rows in
-    let done = map f (byte_addresses place x b) in
-    let a = address_of (cell_of place b) (byte_of x b) in
-    record {
-      taken = λ cs h.
-          e ∙ ap (λ (z : Tally). with_counter z c) (k.taken cs h) ∙ ap (with_counter (tally (cs ++ done))) (d ∙ rw (p, q)) ∙ tally_more (cs ++ done) (f a)
-          ∙ ap tally (append_assoc cs done (f a ∷ []) ∙ rw (add-one, map-append));
-    }
 
 -- the places of a row: t is the tally of the counters of the first of them
 pub record Upto (rows : List Row) (r : Row) (place : ℕ) (t : Tally) : Type 0 where
@@ -72,7 +36,7 @@ unfolding addresses_to
 place_more rows r place = rw (add-one, map-append)
 
 module _ {rows : List Row} {r : Row} {place : ℕ} {v : Value} {t u : Tally} (d : v ≡ place_at r place) (h : Upto rows r place t) where
-  pub place_turn : (x : ℕ) {s : Tally} → v ≡ Concrete x → Taken rows t (byte_addresses place x 8) s → Within (8 * (place + 1)) s → u ≡ s
+  pub place_turn : (x : ℕ) {s : Tally} → v ≡ Concrete x → Taken (counter_in rows) t (byte_addresses place x 8) s → Within (8 * (place + 1)) s → u ≡ s
       → Upto rows r (place + 1) u
   place_turn x e k w q =
       record {
@@ -97,6 +61,11 @@ places_end {rows} {r} h e short =
 pub marks_in_row : {s : Layout} {words marks : List ℕ} (f : Fit s words marks) (i : ℕ) → i < s.rows
     → length (nth_row (rows_of s words marks) i).marks ≡ s.marks
 marks_in_row f i h = ap (λ (z : Row). length z.marks) (sym (lent_row f i h)) ∙ lent_marks f i h
+
+-- the score of a row that does not take part
+pub float_zero : of_bits binary64 0 ≡ whole 0
+unfolding of_int of_bits
+float_zero = refl
 
 -- the first r of n scores are written
 pub record Written (m : MeanType) (flags : List Bool) (rows : List Row) (n r : ℕ) (scores : List Float) : Type 0 where

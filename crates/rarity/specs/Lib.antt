@@ -1,2 +1,2 @@
 pub mod Scores
-pub mod Taken
+pub mod Own

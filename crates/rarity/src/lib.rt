@@ -1,75 +1,36 @@
 // Scores of the rows of a store (the Rust's compute_scores). For the layers above.
 #![tactic(auto)]
 
-ghost use Rattle.std.specs.Prelude.{◌≡◌, ◌+◌, ◌*◌, ◌≤◌, ◌<◌, length};
+ghost use Rattle.std.specs.Prelude.{◌≡◌, ◌<◌, length};
+ghost use Rattle.store.specs.Store.{memory_of};
 ghost use Rattle.store.specs.Lent.{rows_seen};
-ghost use Rattle.means.specs.Tallies.{tally, Within, most_counters};
-ghost use Rattle.counting.specs.Cells.{place_at, byte_addresses};
 ghost use Rattle.counting.specs.Lent.{rows_taking};
-ghost use Rattle.rarity.specs.Taken.{Taken, row_counters, row_score};
+ghost use Rattle.tables.specs.Lent.{ZeroTable};
+ghost use Rattle.tables.specs.Tables.{increments};
 ghost use Rattle.rarity.specs.Scores.{flagged_scores, are_ordered};
 
-use counting::cells::{BYTES, base_of, place_at};
-use counting::counter::counter;
+mod by_table;
+mod over_rows;
+
+use by_table::score_by_table;
 use counting::taking::Taking;
-use means::{MeanType, Tally};
-use values::{Value, byte_of};
+use means::MeanType;
+use over_rows::score_over_rows;
 
-// Takes in the eight counters of a concrete word.
-fn tally_word(rows: Taking, so_far: Tally, place: usize, x: u64) -> Tally
-    requires place { place ≤ rows.store.layout.marks }
-    requires small { Within (8 * place) so_far }
-    ensures taken { Taken (rows_taking rows.entry) so_far (byte_addresses place x 8) result }
-    ensures small { Within (8 * (place + 1)) result }
-{
-    let base = base_of(place);
-    let mut t = so_far;
-    for b in 0..BYTES {
-        let byte = byte_of(x, b);
-        let cell = base + 8 * (b as usize);
-        t = t.add(counter(rows, cell, byte));
-    }
-    t
-}
-
-// The counters of row r among the rows that take part, all of them in list order.
-fn tally_row(rows: Taking, r: usize) -> Tally
-    requires row { r < rows.store.layout.rows }
-    ensures value { result ≡ tally (row_counters rows.entry r) }
-    ensures small { Within most_counters result }
-{
-    let row = rows.store.row(r);
-    let mut t = Tally::new();
-    for place in 0..=rows.store.layout.marks {
-        if let Value::Concrete(x) = place_at(row, place) {
-            t = tally_word(rows, t, place, x);
-        }
-    }
-    t
-}
-
-// The score of row r among the rows that take part.
-#[tactic(auto, unfolding(crate::specs::Scores::score))]
-fn score_row(rows: Taking, mean: MeanType, r: usize) -> f64
-    requires row { r < rows.store.layout.rows }
-    ensures { result ≡ row_score mean rows.entry r }
-{
-    let t = tally_row(rows, r);
-    t.mean(mean)
-}
-
-// The scores of the rows that take part; 0 for the others.
-pub fn score_rows(rows: Taking, mean: MeanType, scores: &mut [f64])
+// The scores of the rows that take part; 0 for the others. A table that has no counters is not used, and the rows are counted over the store. The scores
+// are the same. Gives the number of increments that were made in the table, which is zero again.
+pub fn score_rows(rows: Taking, mean: MeanType, table: &mut [u32], scores: &mut [f64]) -> u64
     requires a_score_each { length scores.old ≡ rows.store.layout.rows }
-    ensures { scores.new ≡ flagged_scores mean rows.entry.flags.now (rows_seen rows.entry.store) }
+    requires table { ZeroTable (memory_of rows.store.layout) table.old }
+    ensures scores { scores.new ≡ flagged_scores mean rows.entry.flags.now (rows_seen rows.entry.store) }
+    ensures same_table { table.new ≡ table.old }
+    ensures increments { 0 < length table.old → result ≡ increments (rows_taking rows.entry) }
 {
-    for r in 0..rows.store.layout.rows {
-        scores[r] = if rows.flags[r] {
-            score_row(rows, mean, r)
-        } else {
-            0.0
-        };
+    if table.is_empty() {
+        score_over_rows(rows, mean, scores);
+        return 0;
     }
+    score_by_table(rows, mean, table, scores)
 }
 
 // Whether all scores can be ordered: one that cannot be is not even at most itself.

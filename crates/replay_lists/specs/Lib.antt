@@ -3,3 +3,4 @@ pub mod Columns
 pub mod Digits
 pub mod Digests
 pub mod Tallies
+pub mod Tables

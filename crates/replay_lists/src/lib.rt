@@ -12,4 +12,5 @@ pub mod program;
 pub mod reader;
 pub mod replay;
 pub mod sizes;
+pub mod table;
 pub mod tally;

@@ -1,4 +1,4 @@
-// Where the parts of a line stand: twelve numbers, then scores, counters, and the runs of words and of marks.
+// Where the parts of a line stand: sixteen numbers, then scores, counters, and the runs of words and of marks.
 use replay_lists::columns::length_at;
 
 pub(crate) const MEMORY: usize = 0;
@@ -25,7 +25,16 @@ const WORD_RUNS: usize = 10;
 
 const MARK_RUNS: usize = 11;
 
-const FIRST_SCORE: usize = 12;
+// What is lent to the call by table, and what it comes to.
+pub(crate) const LENT_TABLE: usize = 12;
+
+pub(crate) const NUMBER_BY_TABLE: usize = 13;
+
+pub(crate) const INCREMENTS: usize = 14;
+
+pub(crate) const LEFT: usize = 15;
+
+const FIRST_SCORE: usize = 16;
 
 // Counters and runs have three numbers each.
 pub(crate) const TRIPLE: usize = 3;

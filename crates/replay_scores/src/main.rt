@@ -1,5 +1,5 @@
-// Replays a list of cases that tools/make-scores makes: stores of rows, each scored through the entry for hosts, with what a model
-// written from the scope paper says of the answer, of each score and of some counters.
+// Replays a list of cases that tools/make-scores makes: stores of rows, each scored through the two entries for hosts, with what a model
+// written from the scope paper says of the answers, of each score, of the lent table and of some counters.
 #![tactic(auto)]
 
 mod call;

@@ -1,5 +1,5 @@
-// Replays a list of cases that tools/make-searches makes: whole searches through the entry for hosts, with what a model written from
-// the scope paper says of the answer and of the store that is left.
+// Replays a list of cases that tools/make-searches makes: whole searches through the two entries for hosts, with what a model written from
+// the scope paper says of the answers and of the store and the table that are left.
 #![tactic(auto)]
 
 mod asked;

@@ -7,7 +7,7 @@ use Rattle.invariants.proofs.Lengths.{run_words, run_marks}
 use Rattle.invariants.proofs.ZeroMark.{run_zero_mark}
 use Rattle.store.specs.declared.layout.Layout.{Layout}
 use Rattle.counting.specs.Counters.{taking}
-use Rattle.rarity.proofs.Among.{taking_length}
+use Rattle.counting.proofs.Members.{taking_length}
 use Rattle.rounds.specs.Demand.{All, nil, cons}
 use Rattle.rounds.specs.Rounds.{run_all, row_after, running_flag, still_running}
 use Rattle.rounds.proofs.Proper.{Proper}

@@ -1,3 +1,4 @@
 pub mod Turns
 pub mod Accepted
 pub mod Scored
+mod TableScored

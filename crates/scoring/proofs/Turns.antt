@@ -7,9 +7,11 @@ use Rattle.rows.specs.Valid.{valid_row}
 use Rattle.store.specs.declared.layout.Layout.{Layout}
 use Rattle.store.specs.Store.{Fit, rows_of, nth_row}
 use Rattle.store.proofs.Rows.{length_rows}
+use Rattle.counting.specs.Counters.{taking}
+use Rattle.tables.specs.Tables.{increments}
 use Rattle.means.specs.declared.MeanType.{MeanType}
 use Rattle.rarity.specs.Scores.{scores_of, flagged_scores, are_ordered}
-use Rattle.rarity.proofs.Among.{all_taking}
+use Rattle.rarity.proofs.Among.{taking_all, all_taking}
 use Rattle.scoring.specs.Entry.{all_valid, ordered_answer}
 use Rattle.scoring.specs.declared.ScoringError.TheVariants.{ScoresUnordered}
 
@@ -40,6 +42,14 @@ pub all_scored : (m : MeanType) (s : Layout) (words marks : List ℕ) → s.rows
 all_scored m s words marks h =
     ap (λ (z : List Bool). flagged_scores m z (rows_of s words marks)) (front_alike s.rows 4096 true h)
     ∙ all_taking m (rows_of s words marks) s.rows (length_rows s.rows s.words s.marks words marks)
+
+-- and all are counted
+pub all_counted : (s : Layout) (words marks : List ℕ) → s.rows ≤ most_rows
+    → increments (taking (take (s.rows - 0) (drop 0 (replicate 4096 true))) (rows_of s words marks)) ≡ increments (rows_of s words marks)
+all_counted s words marks h =
+    let rows = rows_of s words marks in
+    ap (λ (flags : List Bool). increments (taking flags rows)) (front_alike s.rows 4096 true h)
+    ∙ ap increments (taking_all rows s.rows (length_rows s.rows s.words s.marks words marks))
 
 -- what is answered of the scores in a part
 module _ {t : Bool} {part scores : List Float} (d : t ≡ are_ordered part) (e : part ≡ scores) where

@@ -47,8 +47,8 @@ scoring_answer (Ok t) scores = ordered_answer (are_ordered scores)
 scoring_answer (Err f) scores = Err (Refused f)
 
 -- the lent scores afterwards: unchanged unless the rows are scored
-unfoldable pub scores_left : Result (Unit {0}) ScoringError → List Float → List Float → List Float
-scores_left (Ok t) scores lent = scores
+unfoldable pub scores_left : {A : Type 0} → Result A ScoringError → List Float → List Float → List Float
+scores_left (Ok a) scores lent = scores
 scores_left (Err e) scores lent = lent
 
 -- all rows are counted, and all are scored
@@ -72,7 +72,10 @@ ScoresBounded memory log rows m words marks lent scores =
     scoring_checked memory log rows words marks lent ≡ Ok tt
     → Bounded m (store_rows memory log rows words marks) (store_rows memory log rows words marks) scores
 
-abbrev pub scoring_number : Result (Unit {0}) ScoringError → ℕ
-scoring_number (Ok t) = 0
-scoring_number (Err ScoresUnordered) = 31
-scoring_number (Err (Refused f)) = refusal_number f
+abbrev pub error_number : ScoringError → ℕ
+error_number ScoresUnordered = 31
+error_number (Refused f) = refusal_number f
+
+abbrev pub scoring_number : {A : Type 0} → Result A ScoringError → ℕ
+scoring_number (Ok a) = 0
+scoring_number (Err e) = error_number e

@@ -2,13 +2,19 @@
 // What is refused changes nothing.
 #![tactic(auto)]
 
-ghost use Rattle.std.specs.Prelude.{◌≡◌, length};
+ghost use Rattle.std.specs.Prelude.{◌≡◌, ◌<◌, length, IfOk};
 ghost use Rattle.checks.specs.Tests.{checked_by};
 ghost use Rattle.store.specs.Lent.{rows_seen};
+ghost use Rattle.store.specs.Store.{memory_of};
+ghost use Rattle.tables.specs.Lent.{ZeroTable};
+ghost use Rattle.tables.specs.Tables.{increments};
 ghost use Rattle.rarity.specs.Scores.{scores_of, are_ordered};
-ghost use Rattle.scoring.specs.Entry.{all_valid, size_tests, scoring_checked, ordered_answer, scoring_answer, scores_left, store_scores, scoring_number};
+ghost use Rattle.scoring.specs.ByTable.{uncounted};
+ghost use Rattle.scoring.specs.Entry.{all_valid, size_tests, scoring_checked, ordered_answer, scoring_answer, scores_left, store_scores, error_number, scoring_number};
 ghost use Rattle.scoring.specs.declared.ScoringError.TheVariants.{Refused};
 ghost use Rattle.scoring.specs.Entry.{AlwaysScored, ScoresBounded};
+
+pub mod by_table;
 
 use checks::refusal::{
     Refusal, are_lengths, is_amount_of_states, is_log_size, is_memory_size, test,
@@ -37,19 +43,30 @@ impl From<Refusal> for ScoringError {
     }
 }
 
+impl ScoringError {
+    // The number that hosts are told.
+    pub fn number(self) -> u64
+        ensures { result ≡ error_number self }
+    {
+        match self {
+            ScoringError::ScoresUnordered => 31,
+            ScoringError::Refused(refusal) => refusal.number(),
+        }
+    }
+}
+
 // The number that hosts are told: 0 for rows that are scored.
 pub fn scoring_number(answer: Result<(), ScoringError>) -> u64
     ensures { result ≡ scoring_number answer }
 {
     match answer {
         Ok(()) => 0,
-        Err(ScoringError::ScoresUnordered) => 31,
-        Err(ScoringError::Refused(refusal)) => refusal.number(),
+        Err(error) => error.number(),
     }
 }
 
 // Whether all rows are such as executors can have.
-fn all_valid(store: StoreRef) -> bool
+pub(crate) fn all_valid(store: StoreRef) -> bool
     ensures { result ≡ all_valid (rows_seen store.entry) }
 {
     for r in 0..store.layout.rows {
@@ -61,7 +78,7 @@ fn all_valid(store: StoreRef) -> bool
 }
 
 #[tactic(auto, unfolding(checks::specs::Tests::checked_by))]
-fn check_sizes(
+pub(crate) fn check_sizes(
     words: &[u64],
     marks: &[u8],
     memory: u64,
@@ -84,11 +101,20 @@ fn check_sizes(
     test(lengths && scores as u64 == rows, Refusal::LentLengths)
 }
 
-// Scores all rows; the lent scores are written only if they can be ordered.
+// Scores all rows, by the table if it has counters; the lent scores are written only if they can be ordered. Gives the number of increments that were
+// made in the table.
 #[tactic(auto, unfolding(crate::specs::Entry::scores_left))]
-fn score_store(store: StoreRef, mean: MeanType, scores: &mut [f64]) -> Result<(), ScoringError>
-    requires { length scores.old ≡ store.layout.rows }
-    ensures value { result ≡ ordered_answer (are_ordered (scores_of mean (rows_seen store.entry))) }
+pub(crate) fn score_store(
+    store: StoreRef,
+    mean: MeanType,
+    table: &mut [u32],
+    scores: &mut [f64],
+) -> Result<u64, ScoringError>
+    requires one_each { length scores.old ≡ store.layout.rows }
+    requires table { ZeroTable (memory_of store.layout) table.old }
+    ensures value { uncounted result ≡ ordered_answer (are_ordered (scores_of mean (rows_seen store.entry))) }
+    ensures increments { 0 < length table.old → IfOk result (λ n. n ≡ increments (rows_seen store.entry)) }
+    ensures same_table { table.new ≡ table.old }
     ensures scores_after { scores.new ≡ scores_left result (scores_of mean (rows_seen store.entry)) scores.old }
 {
     let n = store.layout.rows;
@@ -98,12 +124,12 @@ fn score_store(store: StoreRef, mean: MeanType, scores: &mut [f64]) -> Result<()
         store,
         flags: &flags[0..n],
     };
-    score_rows(all, mean, &mut computed[0..n]);
+    let increments = score_rows(all, mean, table, &mut computed[0..n]);
     if !are_ordered(&computed[0..n]) {
         return Err(ScoringError::ScoresUnordered);
     }
     scores.copy_from_slice(&computed[0..n]);
-    Ok(())
+    Ok(increments)
 }
 
 // Scores `rows` rows of a memory of `memory` bytes and `log` log words each, one score a row.
@@ -131,5 +157,6 @@ pub fn score_with_mean(
         layout: Layout::new(rows as usize, memory / 8, log),
     };
     test(all_valid(store), Refusal::InvalidRow)?;
-    score_store(store, mean, scores)
+    score_store(store, mean, &mut [], scores)?;
+    Ok(())
 }

@@ -1,5 +1,5 @@
 -- What a call leaves: all as found if it is refused, the rows of its search if it is accepted.
-use Rattle.std.proofs.Common.{◌≡◌, sym, ap, ◌∙◌, List, ℕ, Ok, Err}
+use Rattle.std.proofs.Common.{◌≡◌, refl, sym, ap, ◌∙◌, List, ℕ, Result, Ok, Err}
 use Rattle.loader.specs.Loading.{Program}
 use Rattle.checks.specs.declared.refusal.Refusal.{Refusal}
 use Rattle.store.specs.Store.{Fit, words_of, marks_of}
@@ -13,13 +13,8 @@ use Rattle.rounds.specs.Handed.{Callable}
 use Rattle.rounds.specs.Rounds.{Searched, searched}
 use Rattle.options.specs.declared.RaritySimulationOptions.{RaritySimulationOptions}
 use Rattle.search.specs.Searching.{searched_as}
-use Rattle.search.specs.Entry.{search_checked, Left, left, left_by, search_left, search_entry}
+use Rattle.search.specs.Entry.{Left, left, left_by, search_left}
 use Rattle.search.proofs.Accepted.{Allowed}
-
-pub left_refused : (o : RaritySimulationOptions) (log : ℕ) (p : Program) (tape words marks : List ℕ) (f : Refusal)
-    → search_checked o log p words marks ≡ Err f → left words marks (Err f) ≡ search_entry o log p tape words marks
-unfolding search_left
-left_refused o log p tape words marks f h = rw h
 
 -- an accepted call, in the layout that its options say
 module _ {o : RaritySimulationOptions} {log : ℕ} {p : Program} {words marks : List ℕ} (call_is : Allowed o log p words marks)
@@ -30,9 +25,16 @@ module _ {o : RaritySimulationOptions} {log : ℕ} {p : Program} {words marks : 
   pub callable : (tape : List ℕ) → Callable (call o s p tape)
   callable tape = record { ratio = call_is.ratio; loadable = rw is call_is.loadable }
 
-  pub left_accepted : {l : Left} (tape : List ℕ) → l ≡ left_by (searched (call o s p tape)) → l ≡ search_entry o log p tape words marks
+-- what an entry's tests decide
+module _ (o : RaritySimulationOptions) (log : ℕ) (p : Program) (tape words marks : List ℕ) {r checked : Result (Unit {0}) Refusal} (e : r ≡ checked) where
+  pub left_refused : (f : Refusal) → r ≡ Err f → left words marks (Err f) ≡ search_left checked o log p tape words marks
   unfolding search_left
-  left_accepted tape e = rw (call_is.accepted, ← is) e
+  left_refused f h = rw (← e, h) refl
+
+  pub left_accepted : {s : Layout} {l : Left} → r ≡ Ok tt → s ≡ layout_of o log → l ≡ left_by (searched (call o s p tape))
+      → l ≡ search_left checked o log p tape words marks
+  unfolding search_left
+  left_accepted h is k = rw (← e, h, ← is) k
 
 -- a store that holds the rows of a search is what the search leaves
 pub left_in : (s : StoreMut) (x : Searched) (e : Ended) → searched_as e (rows_lent s) x → left s.words.now s.marks.now (Ok e) ≡ left_by x

@@ -2,3 +2,4 @@ pub mod Accepted
 pub mod Limits
 pub mod Going
 pub mod Leaving
+pub mod WithTable

@@ -1,2 +1,3 @@
+pub mod ByTable
 pub mod Entry
 pub mod Searching

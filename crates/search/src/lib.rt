@@ -4,14 +4,16 @@
 ghost use Rattle.std.specs.Prelude.{◌≡◌, Ok};
 ghost use Rattle.checks.specs.Tests.{checked_by};
 ghost use Rattle.loader.specs.Lent.{program_seen};
-ghost use Rattle.store.specs.Store.{Fit};
+ghost use Rattle.store.specs.Store.{Fit, memory_of};
 ghost use Rattle.store.specs.Lent.{rows_lent, SameStore};
+ghost use Rattle.tables.specs.Lent.{ZeroTable};
 ghost use Rattle.rounds.specs.Handed.{call_of, Callable, Holding};
 ghost use Rattle.rounds.specs.Rounds.{searched};
 ghost use Rattle.search.specs.Searching.{ended_of, searched_as};
 ghost use Rattle.search.specs.Entry.{option_tests, call_tests, left, left_by, search_entry, Demanded};
 
 pub mod answer;
+pub mod by_table;
 
 use answers::finding::Finding;
 use checks::refusal::{
@@ -27,7 +29,7 @@ use store::view::StoreMut;
 
 // Numbers 1 to 5.
 #[tactic(auto, unfolding(checks::specs::Tests::checked_by))]
-fn check_options(
+pub(crate) fn check_options(
     options: RaritySimulationOptions,
     log: u64,
     words: usize,
@@ -62,15 +64,17 @@ fn check_call(
 }
 
 // The rounds, from a zeroed store on. Answers what another round would start from, or how one of them ended the search.
-fn search_rounds(store: &mut StoreMut, call: Call) -> Result<Start, Ended>
+fn search_rounds(store: &mut StoreMut, table: &mut [u32], call: Call) -> Result<Start, Ended>
+    requires table { ZeroTable (memory_of store.old.layout) table.old }
     requires holding { Holding store.old 0 }
     requires callable { Callable (call_of store.old.layout call) }
     ensures searched { searched_as (ended_of result) (rows_lent store.new) (searched (call_of store.old.layout call.entry)) }
     ensures same_store { SameStore store.old store.new }
+    ensures same_table { table.new ≡ table.old }
 {
     let mut start = Start { kept: 0, used: 0 };
     for _round in 0..call.options.iterations {
-        start = round(store, call, start)?;
+        start = round(store, table, call, start)?;
     }
     Ok(start)
 }
@@ -89,28 +93,38 @@ fn ended_of(rounds: Result<Start, Ended>) -> Ended
 }
 
 // The search that an accepted call asks for, whatever the store held.
-fn search_store(store: &mut StoreMut, call: Call) -> Ended
+fn search_store(store: &mut StoreMut, table: &mut [u32], call: Call) -> Ended
+    requires table { ZeroTable (memory_of store.old.layout) table.old }
     requires callable { Callable (call_of store.old.layout call) }
     ensures left_after { left store.new.words.now store.new.marks.now (Ok result)
         ≡ left_by (searched (call_of store.old.layout call.entry)) }
     ensures same_store { SameStore store.old store.new }
+    ensures same_table { table.new ≡ table.old }
 {
     store.zero_rows(0);
-    ended_of(search_rounds(store, call))
+    ended_of(search_rounds(store, table, call))
 }
 
 // The same, of a store that is lent as two slices. A function of its own, so that one call says what both hold at the end.
-fn search_lent(words: &mut [u64], marks: &mut [u8], layout: Layout, call: Call) -> Ended
+pub(crate) fn search_lent(
+    words: &mut [u64],
+    marks: &mut [u8],
+    table: &mut [u32],
+    layout: Layout,
+    call: Call,
+) -> Ended
     requires fit { Fit layout words.old marks.old }
+    requires table { ZeroTable (memory_of layout) table.old }
     requires callable { Callable (call_of layout call) }
-    ensures { left words.new marks.new (Ok result) ≡ left_by (searched (call_of layout call.entry)) }
+    ensures left_after { left words.new marks.new (Ok result) ≡ left_by (searched (call_of layout call.entry)) }
+    ensures same_table { table.new ≡ table.old }
 {
     let mut store = StoreMut {
         words,
         marks,
         layout,
     };
-    search_store(&mut store, call)
+    search_store(&mut store, table, call)
 }
 
 // Searches a program for bugs, round after round (the Rust's search_for_bugs).
@@ -138,5 +152,5 @@ pub fn search_for_bugs(
         program,
         tape,
     };
-    Ok(search_lent(words, marks, layout, call))
+    Ok(search_lent(words, marks, &mut [], layout, call))
 }

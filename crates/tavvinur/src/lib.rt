@@ -14,6 +14,8 @@ ghost use Rattle.search.specs.Entry.{Demanded};
 ghost use Rattle.tavvinur.specs.Flat.{left, creation_left, run_left, search_left, scores_with, score_left, AlwaysScored};
 ghost use Rattle.tavvinur.specs.Printing.{flat_printed, printed_left, program_left, OneRun};
 
+pub mod by_table;
+
 use answers::answer::Answer;
 use checks::refusal::checked_number;
 use executor::run_answer;

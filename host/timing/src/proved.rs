@@ -2,10 +2,10 @@
 
 use crate::{
     clock,
-    tavvinur::search as search_store,
-    tavvinur::{new_executor, row_marks, row_words, run as run_row, run_program, score},
+    tavvinur::{new_executor, row_marks, row_words, run as run_row, run_program},
+    tavvinur::{score, score_by_table, search as search_rows, search_by_table, table_length},
     tavvinur::{Answer, Program, HARMONIC},
-    Case, KEYS, LOG,
+    Case, ENDING, GOING_ON, KEYS,
 };
 use std::time::Duration;
 
@@ -13,6 +13,15 @@ use std::time::Duration;
 struct Store {
     words: Vec<u64>,
     marks: Vec<u8>,
+}
+
+/// A lent table whose pages have been touched.
+fn table(memory: u64) -> Vec<u32> {
+    vec![1; table_length(memory)]
+}
+
+fn look_at_table(table: &[u32]) {
+    assert!(table.iter().all(|counter| *counter == 0));
 }
 
 impl Store {
@@ -72,59 +81,176 @@ pub fn print(program: &'static Program, memory: u64) -> impl FnMut(u32) -> Durat
     }
 }
 
-fn search_in(store: &mut Store, case: Case, tape: &[u64]) -> Answer {
-    let options = case.options();
-    search_store(
+fn search_for(
+    program: &Program,
+    store: &mut Store,
+    table: &mut [u32],
+    case: Case,
+    tape: &[u64],
+) -> Answer {
+    search_by_table(
         &mut store.words,
         &mut store.marks,
-        &options,
-        LOG,
-        &KEYS,
+        table,
+        &case.options(),
+        case.log(),
+        program,
         tape,
     )
 }
 
-pub fn search(case: Case, tape: &[u64]) -> Duration {
-    let mut store = Store::new(case.states, case.memory, LOG);
-    let started = clock::now();
-    search_in(&mut store, case, tape);
-    clock::now() - started
+fn search_in(store: &mut Store, table: &mut [u32], case: Case, tape: &[u64]) -> Answer {
+    search_for(&KEYS, store, table, case, tape)
 }
 
+/// What scoring adds to a search of one round: the time of one that keeps no state, less that of the same whose states have all ended
+/// before they would be scored.
+pub fn scoring(case: Case, tape: &[u64]) -> impl FnMut() -> [Duration; 2] + '_ {
+    let mut store = Store::new(case.states, case.memory, case.log());
+    let mut table = table(case.memory);
+    move || {
+        [&GOING_ON, &ENDING].map(|program| {
+            let started = clock::now();
+            let answer = search_for(program, &mut store, &mut table, case, tape);
+            let time = clock::now() - started;
+            assert_eq!(answer.number, 0);
+            time
+        })
+    }
+}
+
+/// A search by table.
+pub fn search(case: Case, tape: &[u64]) -> Duration {
+    let mut store = Store::new(case.states, case.memory, case.log());
+    let mut table = table(case.memory);
+    let started = clock::now();
+    search_in(&mut store, &mut table, case, tape);
+    let time = clock::now() - started;
+    look_at_table(&table);
+    time
+}
+
+/// The number of the answer and the tape words taken, by table.
 pub fn answer(case: Case, tape: &[u64]) -> (u64, u64) {
-    let mut store = Store::new(case.states, case.memory, LOG);
-    let answer = search_in(&mut store, case, tape);
+    let mut store = Store::new(case.states, case.memory, case.log());
+    let answer = search_in(&mut store, &mut table(case.memory), case, tape);
     (answer.number, answer.used)
 }
 
-/// One round from nothing by single calls: new executors, their runs, their scores.
-pub fn phases(case: Case, tape: &[u64]) -> [Duration; 3] {
-    let (memory, rows) = (case.memory, case.states);
-    let mut store = Store::new(rows, memory, LOG);
-    let mut scores = vec![0.0; rows as usize];
-    let (words, marks) = (row_words(memory, LOG), row_marks(memory));
+/// The same without a table.
+pub fn answer_without(case: Case, tape: &[u64]) -> (u64, u64) {
+    let Store {
+        mut words,
+        mut marks,
+    } = Store::new(case.states, case.memory, case.log());
+    let options = case.options();
+    let answer = search_rows(&mut words, &mut marks, &options, case.log(), &KEYS, tape);
+    (answer.number, answer.used)
+}
 
-    let started = clock::now();
-    for (w, m) in (store.words.chunks_mut(words)).zip(store.marks.chunks_mut(marks)) {
-        new_executor(w, m, memory, LOG, &KEYS).expect("the program is accepted");
+/// The rows of one round from nothing.
+struct Round {
+    case: Case,
+    store: Store,
+}
+
+impl Round {
+    /// New executors and their runs by single calls, each with its time.
+    fn new(case: Case, tape: &[u64]) -> (Round, [Duration; 2]) {
+        let (memory, log) = (case.memory, case.log());
+        let mut store = Store::new(case.states, memory, log);
+        let (words, marks) = (row_words(memory, log), row_marks(memory));
+        let started = clock::now();
+        for (w, m) in (store.words.chunks_mut(words)).zip(store.marks.chunks_mut(marks)) {
+            new_executor(w, m, memory, log, &KEYS).expect("the program is accepted");
+        }
+        let filled = clock::now();
+        let mut used = 0;
+        for (w, m) in (store.words.chunks_mut(words)).zip(store.marks.chunks_mut(marks)) {
+            let answer = run_row(w, m, memory, log, case.options().step_size, &tape[used..]);
+            used += answer.used as usize;
+        }
+        let ran = clock::now();
+        (Round { case, store }, [filled - started, ran - filled])
     }
-    let filled = clock::now();
-    let mut used = 0;
-    for (w, m) in (store.words.chunks_mut(words)).zip(store.marks.chunks_mut(marks)) {
-        let answer = run_row(w, m, memory, LOG, case.options().step_size, &tape[used..]);
-        used += answer.used as usize;
+
+    /// Scores by table, with their time and the number of increments.
+    fn score_by_table(&self, table: &mut [u32]) -> (Duration, u64, Vec<f64>) {
+        let Round { case, store } = self;
+        let mut scores = vec![0.0; case.states as usize];
+        let started = clock::now();
+        let increments = score_by_table(
+            &store.words,
+            &store.marks,
+            case.memory,
+            case.log(),
+            case.states,
+            HARMONIC,
+            table,
+            &mut scores,
+        );
+        let time = clock::now() - started;
+        look_at_table(table);
+        (time, increments.expect("the rows are scored"), scores)
     }
-    let ran = clock::now();
-    score(
-        &store.words,
-        &store.marks,
-        memory,
-        LOG,
-        rows,
-        HARMONIC,
-        &mut scores,
-    )
-    .expect("the rows are scored");
-    let scored = clock::now();
-    [filled - started, ran - filled, scored - ran]
+
+    /// Scores without a table, with their time.
+    fn score(&self) -> (Duration, Vec<f64>) {
+        let Round { case, store } = self;
+        let mut scores = vec![0.0; case.states as usize];
+        let started = clock::now();
+        score(
+            &store.words,
+            &store.marks,
+            case.memory,
+            case.log(),
+            case.states,
+            HARMONIC,
+            &mut scores,
+        )
+        .expect("the rows are scored");
+        (clock::now() - started, scores)
+    }
+}
+
+/// One round from nothing by single calls: new executors, their runs, their scores by table.
+pub fn phases(case: Case, tape: &[u64]) -> [Duration; 3] {
+    let (round, [filling, running]) = Round::new(case, tape);
+    let (scoring, ..) = round.score_by_table(&mut table(case.memory));
+    [filling, running, scoring]
+}
+
+/// Scoring a round again and again, in a table that the first time finds dirty.
+pub struct Scoring {
+    round: Round,
+    table: Vec<u32>,
+}
+
+impl Scoring {
+    pub fn new(case: Case, tape: &[u64]) -> Scoring {
+        Scoring {
+            round: Round::new(case, tape).0,
+            table: table(case.memory),
+        }
+    }
+
+    pub fn increments(&mut self) -> u64 {
+        self.round.score_by_table(&mut self.table).1
+    }
+
+    pub fn scores(&mut self) -> Vec<f64> {
+        self.round.score_by_table(&mut self.table).2
+    }
+
+    pub fn time(&mut self) -> Duration {
+        self.round.score_by_table(&mut self.table).0
+    }
+
+    pub fn scores_without(&self) -> Vec<f64> {
+        self.round.score().1
+    }
+
+    pub fn time_without(&self) -> Duration {
+        self.round.score().0
+    }
 }

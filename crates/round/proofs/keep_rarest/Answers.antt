@@ -11,7 +11,7 @@ pub returns-then-not-are_ordered-clause-result_after : goal.returns-then-not-are
 returns-then-not-are_ordered-clause-result_after c =
     let a = c.args in
     let s = a.store.now in
-    let scored = c.score_rows.ensures ∙ ap (flagged_scores a.options.mean a.running.now) c.view.ensures.rows in
+    let scored = c.score_rows.ensures.scores ∙ ap (flagged_scores a.options.mean a.running.now) c.view.ensures.rows in
     let many = scores_many a.options s a.running.now a.used c.requires.running_len in
     unordered a.options s a.running.now a.used c.requires.running_len
     (front_is s.layout.rows (replicate most_rows (of_bits binary64 0)) _ scored many) (sym c.are_ordered.ensures ∙ c.if-not-are_ordered.true)
@@ -20,7 +20,7 @@ pub returns-clause-result_after : goal.returns-clause-result_after
 returns-clause-result_after c =
     let a = c.args in
     let s = a.store.now in
-    let scored = c.score_rows.ensures ∙ ap (flagged_scores a.options.mean a.running.now) c.view.ensures.rows in
+    let scored = c.score_rows.ensures.scores ∙ ap (flagged_scores a.options.mean a.running.now) c.view.ensures.rows in
     let many = scores_many a.options s a.running.now a.used c.requires.running_len in
     let r = c.select_rarest-kept.ensures in
     follows_on a.options s a.running.now a.used c.requires.running_len
@@ -31,7 +31,7 @@ pub returns-clause-ready : goal.returns-clause-ready
 returns-clause-ready c =
     let a = c.args in
     let s = a.store.now in
-    let scored = c.score_rows.ensures ∙ ap (flagged_scores a.options.mean a.running.now) c.view.ensures.rows in
+    let scored = c.score_rows.ensures.scores ∙ ap (flagged_scores a.options.mean a.running.now) c.view.ensures.rows in
     let many = scores_many a.options s a.running.now a.used c.requires.running_len in
     let r = c.select_rarest-kept.ensures in
     holds a.options s a.running.now a.used c.requires.running_len

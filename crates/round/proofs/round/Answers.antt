@@ -10,6 +10,7 @@ run_and_keep-requires c =
     let s = a.store.now in
     let e = c.create_missing_executors.ensures.filled in
     record {
+      table = rw c.create_missing_executors.ensures.same_store.same_layout c.requires.table;
       limits_allow =
           filled_limits (call_of s.layout a.call) (start_of s a.start) e.1 e.0 c.in_ok-used.was s.fit.sized (omega arith) c.requires.limits_allow;
     }

@@ -1,3 +1,4 @@
+use Rattle.std.proofs.Common.{◌≡◌}
 use Rattle.rounds.specs.Handed.{call_of}
 use Rattle.store.specs.Lent.{SameStore}
 use Rattle.search.proofs.Going.{Going}
@@ -7,5 +8,6 @@ abbrev pub invariant-loop-round : goal.invariant-loop-round
 invariant-loop-round l =
     record {
       same_store : SameStore l.initial.store l.store;
+      same_table : l.table ≡ l.initial.table;
       going : Going (call_of l.initial.store.layout l.call) l.call.options.iterations l._round l.store l.start;
     }

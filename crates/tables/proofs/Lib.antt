@@ -1,0 +1,11 @@
+pub mod Begins
+pub mod Changes
+pub mod Clearing
+pub mod Lending
+pub mod Rows
+pub mod Stores
+pub mod Taking
+pub mod Totals
+pub mod Turns
+pub mod Walks
+pub mod Words

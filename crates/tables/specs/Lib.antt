@@ -1,0 +1,5 @@
+pub mod Changes
+pub mod Gaps
+pub mod Lent
+pub mod Tables
+pub mod Taken
