@@ -35,7 +35,8 @@
  *  23  pc past memory        24  tape empty        25  log full  31  scores cannot be ordered
  *  71  run_program: a write call needs more output than is left; none of its bytes is copied
  *  41  division by zero      42  uninitialised use; value 1: an operand, 2: a write call
- *  43  unaligned address, which is the value     44  address out of range     45  exit with the value, above 0
+ *  43  unaligned address, which is the value     45  exit with the value, above 0
+ *  44  address out of range; a buffer of a read or write call may end with memory, but not past it
  */
 #ifndef TAVVINUR_H
 #define TAVVINUR_H

@@ -62,12 +62,12 @@ LOUD = [
 START = ["li s1, 0", "li s2, 0", "sd x0, 0x208(x0)"]
 
 
-def block_texts(blocks, size):
+def block_texts(blocks, size, keys_at=KEYS_AT):
     """Reads a key of so many bytes, takes it modulo the number of blocks, and goes to that block, which goes back to reading."""
-    reading = ["li a7, READ", "li a0, 0", f"li a1, {KEYS_AT:#x}", f"li a2, {size}", "ecall"]
-    going = [f"ld s0, {KEYS_AT:#x}(x0)", f"li t0, {len(blocks)}", "remu s0, s0, t0", f"li t0, {4 * BLOCK}"]
+    reading = ["li a7, READ", "li a0, 0", f"li a1, {keys_at:#x}", f"li a2, {size}", "ecall"]
+    going = [f"ld s0, {keys_at:#x}(x0)", f"li t0, {len(blocks)}", "remu s0, s0, t0", f"li t0, {4 * BLOCK}"]
     going += ["mul t0, t0, s0", "jal t1, .+4", "add t0, t0, t1", "jalr x0, 8(t0)"]
-    start = START + ([f"sd x0, {KEYS_AT:#x}(x0)"] if size % 8 else [])
+    start = START + ([f"sd x0, {keys_at:#x}(x0)"] if size % 8 else [])
     texts = start + reading + going
     for block in blocks:
         texts += [*block, *["nop"] * (BLOCK - 1 - len(block))]
@@ -156,8 +156,12 @@ KEYS = {name: key for key, name in enumerate(PICK)}
 ONE_KEY = 19
 
 
-def pick_texts():
-    return block_texts(list(PICK.values()), 8)
+def pick_texts(keys_at=KEYS_AT):
+    return block_texts(list(PICK.values()), 8, keys_at)
+
+
+# The last word of the memory that these searches have.
+LAST_WORD = 0x3F8
 
 
 def picked(name, keys, **given):
@@ -242,18 +246,24 @@ WHOLE = [0x05D00893, 0x00300513, 0x00000073, 0x00000073]
 TURNING = ["li s0, 0", "addi s0, s0, 1", "jal x0, .-4", "nop"]
 
 
-def hand_cases(pick, turning):
+# Of the searches above one in so many again, with a program whose keys are read to memory's end.
+PICKS_TO_ONE_AT_THE_END = 6
+
+
+def hand_cases(pick, turning, pick_at_the_end):
     """Cases made by hand, over the programs of pick_texts and TURNING."""
     whole = b"".join(word.to_bytes(4, "little") for word in WHOLE)
     yield case("whole-case", Options(1, 10, 1, 1, 0.0, HARMONIC, 1024, 4), (0, whole))
     for name, options, tape in pick_searches():
         yield case(name, options, (0, pick), tape=tape)
+    for name, options, tape in list(pick_searches())[::PICKS_TO_ONE_AT_THE_END]:
+        yield case(f"{name}-at-the-end", options, (0, pick_at_the_end), tape=tape)
     for name, options, tape in copy_searches():
         yield case(name, options, (0, turning), tape=tape)
 
 
 def hand_programs(folder):
-    return [padded(code) for code in assemble_texts(folder, [pick_texts(), TURNING])]
+    return [padded(code) for code in assemble_texts(folder, [pick_texts(), TURNING, pick_texts(LAST_WORD)])]
 
 
 # --- sheets ---

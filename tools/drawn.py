@@ -10,7 +10,7 @@ import tempfile
 from cases import RATIOS, case, fields_for, key_texts, random_data, random_options, random_tape
 from model import ARITHMETIC, FIELD_BYTES, FIELDS, HARMONIC, LIMIT_REACHED, MASK, MOST_LOG, MOST_SHEET_BYTES, MOST_STATES
 from model import Executor, Options, Search, bits_of, read_sheet, search_of
-from programs import assemble_texts, label_programs, padded, random_texts, random_word, telling, varied_texts
+from programs import LEAVE, assemble_texts, call_near_sp, label_programs, padded, random_access, random_arithmetic, random_texts, random_word, telling, varied_texts
 
 BLOCK = 500
 
@@ -65,6 +65,26 @@ def drawn_codes(rng, folder, count):
     texts = [makers[kind](address) if kind in makers else [] for kind, address in zip(kinds, addresses)]
     codes = assemble_texts(folder, texts)
     return [(address, padded(code or random_code(rng))) for address, code in zip(addresses, codes)]
+
+
+# Sizes of buffers, and where they end, counted from the stack pointer: memory ends eight bytes behind it.
+SIZES, ENDS = [0, 1, 3, 7, 8, 9, 16, 21], [8, 8, 8, 8, 0, 7, 9, 15, 16]
+
+
+def ending_texts(rng):
+    """Reads and writes whose buffers end around memory's end, with something between; most tell what was left there or in a register."""
+    texts = [f"sd x0, {-8 * n}(sp)" for n in range(1, rng.randrange(1, 4))]
+    for _ in range(rng.randrange(1, 4)):
+        size = rng.choice(SIZES)
+        texts += call_near_sp(rng.choice(["READ", "READ", "WRITE"]), rng.choice(ENDS) - size, size)
+        texts += rng.choice([random_access, random_arithmetic])(rng)
+    return texts + rng.choice([["ld a0, 0(sp)", *telling("a0")], telling("a0"), telling("s0"), LEAVE])
+
+
+def ending_codes(rng, folder, count):
+    """Address and code of each of so many such programs."""
+    codes = assemble_texts(folder, [ending_texts(rng) for _ in range(count)])
+    return [(rng.choice([0, 0x40, 0x44]), padded(code)) for code in codes]
 
 
 class Labels:
@@ -262,3 +282,16 @@ def drawn_block(seed, block, count=BLOCK):
             sheet = damaged if is_short(damaged) else sheet
         if is_short(sheet):
             yield sheet
+
+
+# Of the sheets that are compared, one in so many has buffers around memory's end. Lists are drawn without these.
+SHEETS_TO_ONE_ENDING = 50
+
+
+def compared_block(seed, block, count=BLOCK):
+    """As many sheets as a block has."""
+    rng, ending = random.Random(f"ending {seed} {block}"), count // SHEETS_TO_ONE_ENDING
+    yield from drawn_block(seed, block, count - ending)
+    with tempfile.TemporaryDirectory() as folder:
+        for code in ending_codes(rng, folder, ending):
+            yield laid(rng, case("ending", bench_options(rng), code, random_data(rng), random_tape(rng)))

@@ -64,6 +64,18 @@ def with_registers(name, values, texts, **rest):
     return Made(name, loads + texts, data=(TABLE_AT, content), **rest)
 
 
+# --- buffers at memory's end ---
+
+MEMORIES_WITH_ENDS = (1024, 2048)
+
+
+def buffers_at_the_end(memory):
+    """Buffers from the first byte of the last word to one byte past memory, with sizes that end a byte before memory's end, there and a byte past it."""
+    for buffer in range(memory - 8, memory + 2):
+        for size in sorted({0, *range(max(0, memory - 1 - buffer), memory + 2 - buffer)}):
+            yield buffer, size
+
+
 # --- random cases ---
 
 

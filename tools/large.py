@@ -8,7 +8,7 @@ import struct
 import tempfile
 
 from cases import LOUD, QUIET, RATIOS, block_texts, case, random_data, sheet_of, with_fields
-from drawn import drawn_cases
+from drawn import SHEETS_TO_ONE_ENDING, drawn_cases, ending_texts
 from model import ARITHMETIC, DEFAULTS, HARMONIC, MASK, Options
 from programs import assemble_texts, padded, telling
 
@@ -70,7 +70,7 @@ def large_texts(rng, memory, loudness=(0, 0, 0.05, 0.1)):
 def large_sheets(rng, folder, count):
     """Where a search has as many states as are the default, its sheet does not say so: field 0 is all ones."""
     drawn_options = [large_options(rng) for _ in range(count)]
-    texts = [large_texts(rng, options.memory) for options in drawn_options]
+    texts = [large_texts(rng, options.memory) if rng.randrange(SHEETS_TO_ONE_ENDING) else ending_texts(rng) for options in drawn_options]
     for options, code in zip(drawn_options, assemble_texts(folder, texts)):
         if rng.randrange(20) == 0:
             options = options._replace(**rng.choice(REFUSED))

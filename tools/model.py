@@ -1,5 +1,5 @@
 """A model of the scope paper: one executor on its row, the entries over one row, scoring, whole searches, and sheets; and of
-document 02's run at the counter and of its calls that count in a lent table.
+document 02's run at the counter, of its calls that count in a lent table and of its buffers that may end with memory.
 
 A second reading of the paper that shares nothing with the Rattle code. The tools that make the lists in crates/*/data ask it
 what each case must come to; mksheet and explain have from it what a sheet is, what refuses it, and the instructions.
@@ -102,6 +102,8 @@ class Executor:
     def __init__(self, words, marks, memory, log, tape):
         self.words, self.marks, self.tape, self.used = words, marks, tape, 0
         self.size, self.log_size = memory // 8, log
+        # whether a buffer ended exactly where memory ends, which the Rust refuses
+        self.met_the_end = False
 
     def slot(self, n):
         return self.words[HEADER + n] if self.marks[n] else None
@@ -225,8 +227,9 @@ class Executor:
         if self.register(A0) != descriptor:
             raise End(NOT_SUPPORTED, reasons[0])
         buffer, size = self.base(A1, reasons[1]), self.base(A2, reasons[2])
-        if buffer // 8 >= self.size or (buffer + size) // 8 >= self.size:
+        if buffer // 8 >= self.size or buffer + size > 8 * self.size:
             raise End(OUT_OF_RANGE)
+        self.met_the_end |= buffer + size == 8 * self.size
         return buffer, size
 
     def call_read(self):
@@ -454,6 +457,8 @@ class Search:
         self.rows, self.used = [], 0
         # of the last round
         self.answers = []
+        # whether a buffer of any row of any round ended exactly where memory ends
+        self.met_the_end = False
 
     def found(self, number, row=0, pc=0, value=0):
         return Found(number, row, pc, value, self.used)
@@ -486,8 +491,10 @@ class Search:
         return True
 
     def run(self, row):
-        answer = Executor(*row, self.options.memory, self.options.log, self.tape[self.used :]).run(self.options.step)
+        executor = Executor(*row, self.options.memory, self.options.log, self.tape[self.used :])
+        answer = executor.run(self.options.step)
         self.used += answer.used
+        self.met_the_end |= executor.met_the_end
         return answer
 
     def inputs(self, found):

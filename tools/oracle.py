@@ -7,8 +7,8 @@ from lists import CRATES
 
 ORACLE = os.path.join(os.path.dirname(CRATES), "oracle", "target", "release", "oracle")
 
-# Its exit status for a sheet that is outside the comparison.
-OUTSIDE = 3
+# Its exit status for a sheet that is outside the comparison, and what it says where that is so for a buffer that ends where memory ends.
+OUTSIDE, BUFFER_AT_END = 3, b"buffer ends with memory"
 SECONDS = 60
 
 
@@ -34,3 +34,8 @@ def told_by(command, sheet, seconds=SECONDS):
 
 def ask(sheet, *options):
     return run_on([ORACLE, *options], sheet)
+
+
+def met_the_end(done):
+    """Whether the oracle left a sheet out since a buffer ends exactly where memory ends."""
+    return done.returncode == OUTSIDE and BUFFER_AT_END in done.stderr

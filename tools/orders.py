@@ -7,7 +7,7 @@ import struct
 import tempfile
 
 from cases import case, random_data, random_tape
-from drawn import DAMAGES, MOST_STEPS, drawn_codes, is_short, label_case, laid
+from drawn import DAMAGES, MOST_STEPS, SHEETS_TO_ONE_ENDING, drawn_codes, ending_codes, is_short, label_case, laid
 from large import LARGEST, large_texts
 from model import FIELD_BYTES, HARMONIC, Header, Options, bits_of
 from programs import PRINTED_AT, assemble_texts, padded, printing_texts, random_arithmetic, random_write
@@ -48,7 +48,8 @@ def long_order(rng):
 
 
 def order_cases(rng, folder, count):
-    for code in drawn_codes(rng, folder, count // 2):
+    ending = count // SHEETS_TO_ONE_ENDING
+    for code in drawn_codes(rng, folder, count // 2 - ending) + ending_codes(rng, folder, ending):
         options = order_options(rng)
         yield case("short", options, code, random_data(rng), order_tape(rng, options))
     long_orders = [long_order(rng) for _ in range(count - count // 2 - count // 10)]

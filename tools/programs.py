@@ -103,6 +103,11 @@ PLACES = NEAR_END + [0, 0x40, 0x48, 0x200, 0x205, 0x280, 0x288]
 SIZES = [0, 1, 2, 3, 5, 7, 8, 9, 12, 15, 16, 17, 24, 25]
 
 
+def call_near_sp(call, offset, size):
+    """READ or WRITE of a buffer so many bytes behind the stack pointer, at which memory's last word stands at first."""
+    return [f"li a7, {call}", f"li a0, {int(call == 'WRITE')}", f"addi a1, sp, {offset}", f"li a2, {size}", "ecall"]
+
+
 def random_word(rng):
     """Of a random width, so that small numbers are met too."""
     return rng.getrandbits(rng.randrange(1, 65))

@@ -49,7 +49,7 @@ next:
     sd t1, LABEL(t0)
     j next
 
-print:                      # from a place of its own, since a call's buffer may not end where memory ends
+print:                      # line by line, from a place that has the end of the line behind it
     li s0, 0
     li s2, SIZE
 each:

@@ -147,6 +147,9 @@ fn outside(payload: &(dyn Any + Send), memory_words: usize) -> Result<String, St
                 format!("8 copies {} tape words left {}", to_copy, left)
             }
             view::Outside::LogFull { row, pc } => format!("25 log full, row {} pc {}", row, pc),
+            view::Outside::EndsWithMemory { row, pc } => {
+                format!("44 buffer ends with memory, row {} pc {}", row, pc)
+            }
         });
     }
 

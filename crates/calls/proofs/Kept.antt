@@ -15,15 +15,15 @@ use Rattle.calls.specs.Calls.{a0, a7, returned, brk, transfer_of, read_reasons, 
 
 -- f is what is kept: by a call, if by each way in which one writes a row
 module _ {A : Type 0} (f : Row → A) (pc : (x : ℕ) (r : Row) → f (set_pc x r) ≡ f r) (break : (x : ℕ) (r : Row) → f (set_break x r) ≡ f r) (answer : (x : ℕ) (r : Row) → f (returned x r) ≡ f r) (input : (size : ℕ) (tape : List ℕ) (m used : ℕ) (r : Row) → f (bytes size tape m used r).row ≡ f r) where
-  brk_kept : (wanted : Value) (r : Row) → f (brk wanted r) ≡ f r
+  brk_kept : (w : ℕ) (wanted : Value) (r : Row) → f (brk w wanted r) ≡ f r
   unfolding brk
-  brk_kept (Concrete wanted) r =
+  brk_kept w (Concrete wanted) r =
       let Same : Row → Type 0 = λ s. f s ≡ f r in
       let refused = returned (break_of r) r in
-      chosen Same (ltb wanted (break_of r)) refused (cond (ltb (wanted / 8) (memory_words r)) (set_break wanted r) refused)
+      chosen Same (ltb wanted (break_of r)) refused (cond (ltb (wanted / 8) w) (set_break wanted r) refused)
       (λ t. answer (break_of r) r)
-      (λ t. chosen Same (ltb (wanted / 8) (memory_words r)) (set_break wanted r) refused (λ u. break wanted r) (λ u. answer (break_of r) r))
-  brk_kept Uninitialized r = refl
+      (λ t. chosen Same (ltb (wanted / 8) w) (set_break wanted r) refused (λ u. break wanted r) (λ u. answer (break_of r) r))
+  brk_kept w Uninitialized r = refl
 
   read_to_kept : (to : Result Buffer Outcome) (tape : List ℕ) (used : ℕ) (r : Row) → f (read_to to tape used r).row ≡ f r
   unfolding read_to
@@ -34,8 +34,8 @@ module _ {A : Type 0} (f : Row → A) (pc : (x : ℕ) (r : Row) → f (set_pc x 
 
   call_kept : (id : SyscallId) (tape : List ℕ) (used : ℕ) (r : Row) → f (call_of id tape used r).row ≡ f r
   unfolding call_of read
-  call_kept call.Brk tape used r = brk_kept (slot_at r a0) r
-  call_kept call.Read tape used r = read_to_kept (transfer_of 0 read_reasons r) tape used r
+  call_kept call.Brk tape used r = brk_kept (memory_words r) (slot_at r a0) r
+  call_kept call.Read tape used r = read_to_kept (transfer_of 0 read_reasons (memory_words r) r) tape used r
   call_kept call.Write tape used r = refl
   call_kept call.Exit tape used r = refl
   call_kept call.Unknown tape used r = refl

@@ -1,5 +1,5 @@
 -- The system calls on a row ("Executing" in document 01): brk, read, write, exit, and any other.
-use Rattle.std.specs.Prelude.{ℕ, zero, suc, ◌+◌, ◌/◌, ◌%◌, Bool, true, false, cond, List, Result, Ok, Err, ◌==◌, nat_lt}
+use Rattle.std.specs.Prelude.{ℕ, zero, suc, ◌+◌, ◌/◌, ◌%◌, Bool, true, false, cond, List, Result, Ok, Err, ◌==◌, ◌&&◌, ◌*◌, nat_lt, nat_le}
 use Rattle.answers.specs.declared.bug.Bug.TheVariants.{AccessToUninitializedMemory, AccessToOutOfRangeAddress, ExitCodeGreaterZero}
 use Rattle.answers.specs.declared.bug.UninitializedMemoryAccessReason.TheVariants.{ReadUninitializedMemoryAddress}
 use Rattle.answers.specs.declared.error.NotSupportedReason.{NotSupportedReason}
@@ -42,22 +42,21 @@ unsupported why = Failed (NotSupported why)
 abbrev pub returned : ℕ → Row → Row
 returned n r = set_slot a0 (Concrete n) r
 
--- brk, by the wanted break in a0: one below the break, or outside memory, is refused by answering the break
-unfoldable pub brk : Value → Row → Row
-brk (Concrete wanted) r =
+-- brk in a memory of w words, by the wanted break in a0: one below the break, or outside memory, is refused by answering the break
+unfoldable pub brk : ℕ → Value → Row → Row
+brk w (Concrete wanted) r =
     cond (nat_lt wanted (break_of r)) (returned (break_of r) r)
-    (cond (nat_lt (wanted / 8) (memory_words r)) (set_break wanted r) (returned (break_of r) r))
-brk Uninitialized r = r
+    (cond (nat_lt (wanted / 8) w) (set_break wanted r) (returned (break_of r) r))
+brk w Uninitialized r = r
 
 unfoldable pub brk_progress : Value → Progress
 brk_progress (Concrete wanted) = Running
 brk_progress Uninitialized = Ended (unsupported reason.BrkUninitializedAddress)
 
--- 44 if buffer/8 or (buffer + size)/8 is at or past W
+-- a buffer begins in a memory of w words and ends there, at the latest with the last byte; else 44 (document 02, change 5)
 unfoldable pub valid_range : ℕ → ℕ → ℕ → Result Buffer Outcome
 valid_range buffer size w =
-    cond (nat_lt (buffer / 8) w)
-    (cond (nat_lt ((buffer + size) / 8) w) (Ok (record { address = buffer; size = size })) (Err (Found AccessToOutOfRangeAddress)))
+    cond (nat_lt (buffer / 8) w && nat_le (buffer + size) (8 * w)) (Ok (record { address = buffer; size = size }))
     (Err (Found AccessToOutOfRangeAddress))
 
 -- the buffer and size that a1 and a2 name, with the call's reasons of error 20
@@ -71,9 +70,9 @@ is_file fd (Concrete n) = n == fd
 is_file fd Uninitialized = false
 
 -- a0 must be the call's file
-unfoldable pub transfer_of : ℕ → Reasons → Row → Result Buffer Outcome
-transfer_of fd reasons r =
-    cond (is_file fd (slot_at r a0)) (buffer_and_size reasons (slot_at r a1) (slot_at r a2) (memory_words r)) (Err (unsupported reasons.file))
+unfoldable pub transfer_of : ℕ → Reasons → ℕ → Row → Result Buffer Outcome
+transfer_of fd reasons w r =
+    cond (is_file fd (slot_at r a0)) (buffer_and_size reasons (slot_at r a1) (slot_at r a2) w) (Err (unsupported reasons.file))
 
 abbrev pub read_reasons : Reasons
 read_reasons = record { file = reason.ReadOtherThanStdin; buffer = reason.ReadUninitializedBuffer; size = reason.ReadUninitializedSize }
@@ -95,7 +94,7 @@ read_to (Ok b) tape used r = bytes b.size tape (b.address / 8) used r then_on λ
 read_to (Err o) tape used r = ended o used r
 
 unfoldable pub read : List ℕ → ℕ → Row → Reached
-read tape used r = read_to (transfer_of 0 read_reasons r) tape used r
+read tape used r = read_to (transfer_of 0 read_reasons (memory_words r) r) tape used r
 
 abbrev pub is_concrete : Value → Bool
 is_concrete (Concrete x) = true
@@ -114,7 +113,7 @@ write_from (Ok b) r =
 write_from (Err o) r = step.Ended o
 
 unfoldable pub write : Row → Step
-write r = write_from (transfer_of 1 write_reasons r) r
+write r = write_from (transfer_of 1 write_reasons (memory_words r) r) r
 
 -- exit, by the code in a0
 unfoldable pub exit : Value → Outcome
@@ -139,7 +138,7 @@ step_of Running = step.Running
 step_of (Ended o) = step.Ended o
 
 unfoldable pub call_of : SyscallId → List ℕ → ℕ → Row → Called
-call_of call.Brk tape used r = step_to (step_of (brk_progress (slot_at r a0))) used (brk (slot_at r a0) r)
+call_of call.Brk tape used r = step_to (step_of (brk_progress (slot_at r a0))) used (brk (memory_words r) (slot_at r a0) r)
 call_of call.Read tape used r = let x = read tape used r in step_to (step_of x.moved.progress) x.moved.used x.row
 call_of call.Write tape used r = step_to (write r) used r
 call_of call.Exit tape used r = step_to (step.Ended (exit (slot_at r a0))) used r

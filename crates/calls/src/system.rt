@@ -21,16 +21,15 @@ const STDIN: u64 = 0;
 const STDOUT: u64 = 1;
 
 #[tactic(auto, unfolding(crate::specs::Calls::brk, crate::specs::Calls::brk_progress))]
-fn execute_brk(row: &mut RowMut, wanted: Value) -> Result<(), Outcome>
+fn execute_brk(row: &mut RowMut, wanted: Value, memory: u64) -> Result<(), Outcome>
     ensures value { progress_of result ≡ brk_progress wanted }
-    ensures row_after { lent row.new ≡ brk_of wanted (lent row.old) }
+    ensures row_after { lent row.new ≡ brk_of memory wanted (lent row.old) }
     ensures same_slices { SameSlices row.old row.new }
 {
     let Value::Concrete(address) = wanted else {
         return Err(unsupported(NotSupportedReason::BrkUninitializedAddress));
     };
     let program_break = row.words[BREAK];
-    let memory = row.view().memory_words() as u64;
     if address < program_break || memory <= address / 8 {
         row.write_slot(A0, Value::Concrete(program_break));
     } else {
@@ -49,7 +48,8 @@ fn execute_read(row: &mut RowMut, tape: &[u64], used: &mut usize) -> Result<(), 
         buffer: NotSupportedReason::ReadUninitializedBuffer,
         size: NotSupportedReason::ReadUninitializedSize,
     };
-    let buffer = transfer_of(row.view(), STDIN, reasons)?;
+    let memory = row.view().memory_words() as u64;
+    let buffer = transfer_of(row.view(), STDIN, reasons, memory)?;
     read_bytes(row, tape, buffer.size, (buffer.address / 8) as usize, used)?;
     row.write_slot(A0, Value::Concrete(buffer.size));
     Ok(())
@@ -77,7 +77,7 @@ fn execute_write(row: RowRef) -> Step
         buffer: NotSupportedReason::WriteUninitializedBuffer,
         size: NotSupportedReason::WriteUninitializedSize,
     };
-    let buffer = match transfer_of(row, STDOUT, reasons) {
+    let buffer = match transfer_of(row, STDOUT, reasons, row.memory_words() as u64) {
         Ok(buffer) => buffer,
         Err(outcome) => return Step::Ended(outcome),
     };
@@ -123,7 +123,8 @@ fn execute_call(row: &mut RowMut, id: SyscallId, tape: &[u64], used: &mut usize)
     match id {
         SyscallId::Brk => {
             let wanted = row.view().read_slot(A0);
-            step_of(execute_brk(row, wanted))
+            let memory = row.view().memory_words() as u64;
+            step_of(execute_brk(row, wanted, memory))
         }
         SyscallId::Read => step_of(execute_read(row, tape, used)),
         SyscallId::Write => execute_write(row.view()),

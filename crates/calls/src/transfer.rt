@@ -1,6 +1,5 @@
 // The buffer of a read or write call, checked before any byte of it is touched.
 ghost use Rattle.std.specs.Prelude.{◌≡◌, ◌^◌, ◌<◌};
-ghost use Rattle.rows.specs.Rows.{memory_words};
 ghost use Rattle.rows.specs.Lent.{seen};
 ghost use Rattle.calls.specs.Calls.{valid_range, buffer_and_size, is_file, transfer_of};
 ghost use Rattle.calls.specs.InMemory.{InMemory};
@@ -48,7 +47,7 @@ fn check_for_valid_memory_range(address: u64, size: u64, memory: u64) -> Result<
     ensures value { result ≡ valid_range address size memory }
     ensures in_memory { InMemory memory result }
 {
-    if memory <= address / 8 || u64::MAX - address < size || memory <= (address + size) / 8 {
+    if memory <= address / 8 || u64::MAX - address < size || 8 * memory < address + size {
         return Err(Outcome::Found(Bug::AccessToOutOfRangeAddress));
     }
     Ok(Buffer { address, size })
@@ -76,19 +75,20 @@ fn is_file(fd: u64, a0: Value) -> bool
     a0 == Value::Concrete(fd)
 }
 
-// The buffer that a0, a1 and a2 name for a call on the file fd.
+// The buffer that a0, a1 and a2 name for a call on the file fd, in so many words of memory.
 #[tactic(auto, unfolding(crate::specs::Calls::transfer_of))]
-pub(crate) fn transfer_of(row: RowRef, fd: u64, reasons: Reasons) -> Result<Buffer, Outcome>
-    ensures value { result ≡ transfer_of fd reasons (seen row.entry) }
-    ensures in_memory { InMemory (memory_words (seen row.entry)) result }
+pub(crate) fn transfer_of(
+    row: RowRef,
+    fd: u64,
+    reasons: Reasons,
+    memory: u64,
+) -> Result<Buffer, Outcome>
+    requires { memory < 2 ^ 60 }
+    ensures value { result ≡ transfer_of fd reasons memory (seen row.entry) }
+    ensures in_memory { InMemory memory result }
 {
     if !is_file(fd, row.read_slot(A0)) {
         return Err(unsupported(reasons.file));
     }
-    buffer_and_size(
-        reasons,
-        row.read_slot(A1),
-        row.read_slot(A2),
-        row.memory_words() as u64,
-    )
+    buffer_and_size(reasons, row.read_slot(A1), row.read_slot(A2), memory)
 }

@@ -8,7 +8,7 @@ use Rattle.effects.specs.Effects.{effect_of, assign, binary_op, divu_remu, jalr,
 use Rattle.calls.specs.CallNumbers.{syscall_id}
 use Rattle.values.specs.Values.{value_at}
 use Rattle.execution.specs.Execution.{applied, effect_in}
-use Rattle.reading.specs.Reading.{bytes, full_words, rest, onwards, tail, tail_of, drawn, recorded}
+use Rattle.reading.specs.Reading.{bytes, full_word, full_words, rest, onwards, tail, tail_of, drawn, recorded}
 use Rattle.calls.specs.Calls.{brk, brk_progress, read, read_to, transfer_of, buffer_and_size, valid_range, system, call_of, id_of, exit}
 use Rattle.loader.specs.Loading.{new_executor, programmed, started, loaded, loaded_from}
 use Rattle.machine.specs.Steps.{fetched, half_at, stepped, advanced, settled, interpreted, executed, followed}
@@ -27,7 +27,7 @@ use Rattle.cases.specs.Cases.{ProvedCases, low_bytes, in_bytes}
 
 pub cases : ProvedCases
 unfolding operated decoded decoded_op assign value_at divu_remu to_copy nearest mul of_int of_bits le base_of exact_mean product shares sum
-    bytes full_words rest onwards tail tail_of drawn recorded brk brk_progress read read_to transfer_of buffer_and_size valid_range
+    bytes full_word full_words rest onwards tail tail_of drawn recorded brk brk_progress read read_to transfer_of buffer_and_size valid_range
     fetched half_at jalr applied run_of run_for new_executor programmed started loaded loaded_from sd valid_address invalid_address store_to
     continued advanced settled stepped interpreted executed followed signed effect_in effect_of binary_op system call_of id_of syscall_id exit
     search_from tape_short round_of ran_on filled run_all first_bug first_error used_after
@@ -41,6 +41,7 @@ cases =
       p4 = refl;
       p4_number = refl;
       p5 = refl;
+      p5_refused = refl;
       p5_number = refl;
       p5_passes = refl;
       p5_draws = refl;

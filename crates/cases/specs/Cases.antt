@@ -1,4 +1,5 @@
 -- Document 01's proved cases, P1 to P12, and its whole case: one table of what the definitions come to. Rows have W 128 and L 4.
+-- P5 is as document 02's change 5 has it.
 use Rattle.std.specs.Prelude.{List, Ok, [], ◌∷◌, ◌++◌, ◌≡◌, ℕ, zero, suc, ◌-◌, ◌/◌, ◌%◌, ◌^◌}
 use Rattle.std.specs.Float.{binary64}
 use Rattle.std.specs.Float.Ieee.{of_bits}
@@ -147,9 +148,10 @@ pub record ProvedCases : Type 0 where
   -- divu, dividend uninitialised, divisor 0: the row stays
   pub p4 : after_divu divisor_row ≡ step_to (step.Ended (Found DivisionByZero)) 0 divisor_row
   pub p4_number : number_of (after_divu divisor_row) ≡ 41
-  -- a read at 1016: of 8 bytes, of 7 onto an uninitialised word, of 7 onto a concrete one
-  pub p5 : after_read (read_row 1016 8) ≡ step_to (step.Ended (Found AccessToOutOfRangeAddress)) 0 (read_row 1016 8)
-  pub p5_number : number_of (after_read (read_row 1016 8)) ≡ 44
+  -- a read at 1016: of 8 bytes, which end with memory; of 9; of 7 onto an uninitialised word, of 7 onto a concrete one
+  pub p5 : after_read (read_row 1016 8) ≡ passed 1 (drawn_row 127 0xAABBCCDDEEFF0011 0xAABBCCDDEEFF0011 8 (read_row 1016 8))
+  pub p5_refused : after_read (read_row 1016 9) ≡ step_to (step.Ended (Found AccessToOutOfRangeAddress)) 0 (read_row 1016 9)
+  pub p5_number : number_of (after_read (read_row 1016 9)) ≡ 44
   pub p5_passes : after_read (read_row 1016 7) ≡ passed 0 (set_slot a0 (Concrete 7) (read_row 1016 7))
   pub p5_draws : after_read (onto 127 (read_row 1016 7)) ≡ passed 1 (drawn_row 127 0x11BBCCDDEEFF0011 0xBBCCDDEEFF0011 7 (read_row 1016 7))
   -- brk with a break of 512: 1024 is refused by a0 = 512, 1023 becomes the break, and nothing else of the row changes

@@ -1,5 +1,5 @@
 -- A system call keeps alike rows alike, and comes to the same in both.
-use Rattle.std.proofs.Common.{Bool, false, cond, List, ◌≡◌, refl, ap, ap₂, ℕ, zero, suc, ◌+◌, ◌/◌, ◌%◌, arith, ltb, length}
+use Rattle.std.proofs.Common.{Bool, false, cond, List, ◌≡◌, refl, ap, ap₂, subst, ℕ, zero, suc, ◌+◌, ◌/◌, ◌%◌, arith, ltb, length}
 use Rattle.laws.proofs.Choices.{both_chosen}
 use Rattle.calls.specs.declared.number.SyscallId.{SyscallId}
 use Rattle.calls.specs.declared.number.SyscallId.TheVariants as call
@@ -17,9 +17,9 @@ use Rattle.calls.proofs.Ranges.{transfer_in_memory}
 use Rattle.invariants.proofs.Alike.{Same, Alike, same_slot}
 use Rattle.invariants.proofs.AlikeReading.{Both, then_alike, bytes_alike}
 
-same_transfer : {r s : Row} → Same r s → (fd : ℕ) (reasons : Reasons) → transfer_of fd reasons r ≡ transfer_of fd reasons s
+same_transfer : {r s : Row} → Same r s → (fd : ℕ) (reasons : Reasons) (w : ℕ) → transfer_of fd reasons w r ≡ transfer_of fd reasons w s
 unfolding transfer_of
-same_transfer e fd reasons = rw (same_slot e a0, same_slot e a1, same_slot e a2, e.marks)
+same_transfer e fd reasons w = rw (same_slot e a0, same_slot e a1, same_slot e a2)
 
 same_concrete : {r s : Row} → Same r s → (n m : ℕ) → all_concrete n m r ≡ all_concrete n m s
 unfolding all_concrete
@@ -33,7 +33,7 @@ same_write_from e (Err o) = refl
 
 same_write : {r s : Row} → Same r s → write r ≡ write s
 unfolding write
-same_write e = rw (same_transfer e 1 write_reasons) (same_write_from e _)
+same_write {r} e = rw (← ap length e.marks, same_transfer e 1 write_reasons (memory_words r)) (same_write_from e _)
 
 -- alike rows that a call or an instruction left, with the same to say of both
 pub record BothCalled (R : Row → Row → Type 0) (x y : Called) : Type 0 where
@@ -45,15 +45,14 @@ module _ (w : ℕ) (R : Row → Row → Type 0) (alike : Alike w R) where
   pub answer_alike : (x : ℕ) {r s : Row} → R r s → R (returned x r) (returned x s)
   answer_alike x h = alike.to_slot a0 (Concrete x) (omega arith) (omega arith) h
 
-  brk_alike : (wanted : Value) (r s : Row) → R r s → R (brk wanted r) (brk wanted s)
+  brk_alike : (words : ℕ) (wanted : Value) (r s : Row) → R r s → R (brk words wanted r) (brk words wanted s)
   unfolding brk
-  brk_alike (Concrete wanted) r s h =
-      let e = alike.same h in
+  brk_alike words (Concrete wanted) r s h =
       let refused = answer_alike (break_of r) h in
-      rw (← e.break, ← ap length e.marks)
-      (both_chosen R (ltb wanted (break_of r)) refused
-      (both_chosen R (ltb (wanted / 8) (memory_words r)) (alike.to_header 1 wanted (omega arith) h) refused))
-  brk_alike Uninitialized r s h = h
+      rw (← (alike.same h).break)
+      (both_chosen R (ltb wanted (break_of r)) (λ t. refused)
+      (λ t. both_chosen R (ltb (wanted / 8) words) (λ u. alike.to_header 1 wanted (omega arith) h) (λ u. refused)))
+  brk_alike words Uninitialized r s h = h
 
   -- the words of a buffer are in memory
   read_to_alike : (to : Result Buffer Outcome) (tape : List ℕ) (used : ℕ) (r s : Row) → InMemory w to → R r s → Both R (read_to to tape used r) (read_to to tape used s)
@@ -66,13 +65,15 @@ module _ (w : ℕ) (R : Row → Row → Type 0) (alike : Alike w R) where
   read_alike : (tape : List ℕ) (used : ℕ) (r s : Row) → R r s → Both R (read tape used r) (read tape used s)
   unfolding read
   read_alike tape used r s h =
-      rw (← same_transfer (alike.same h) 0 read_reasons)
-      (read_to_alike (transfer_of 0 read_reasons r) tape used r s (rw (alike.memory h) at (transfer_in_memory 0 read_reasons r)) h)
+      let to = transfer_of 0 read_reasons (memory_words r) r in
+      let inside = subst (λ (n : ℕ). InMemory n to) (alike.memory h) (transfer_in_memory 0 read_reasons (memory_words r) r) in
+      rw (← ap length (alike.same h).marks, ← same_transfer (alike.same h) 0 read_reasons (memory_words r)) (read_to_alike to tape used r s inside h)
 
   call_alike : (id : SyscallId) (tape : List ℕ) (used : ℕ) (r s : Row) → R r s → BothCalled R (call_of id tape used r) (call_of id tape used s)
   unfolding call_of
   call_alike call.Brk tape used r s h =
-      rw (← same_slot (alike.same h) a0) (record { rows = brk_alike (slot_at r a0) r s h; stepped = refl })
+      rw (← ap length (alike.same h).marks, ← same_slot (alike.same h) a0)
+      (record { rows = brk_alike (memory_words r) (slot_at r a0) r s h; stepped = refl })
   call_alike call.Read tape used r s h =
       let b = read_alike tape used r s h in
       record { rows = b.rows; stepped = ap (λ (x : Moved). record { step = step_of x.progress; used = x.used }) b.moved }

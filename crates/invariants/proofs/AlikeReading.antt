@@ -1,5 +1,6 @@
 -- Reading keeps alike rows alike, and goes the same in both.
-use Rattle.std.proofs.Common.{List, ◌≡◌, refl, ℕ, zero, suc, ◌+◌, ◌*◌, ◌/◌, ◌%◌, ◌^◌, ◌<◌, ◌≤◌, arith, eqb}
+use Rattle.std.proofs.Common.{List, ◌≡◌, refl, ℕ, zero, suc, ◌+◌, ◌*◌, ◌/◌, ◌%◌, ◌^◌, ◌<◌, ◌≤◌, arith, false, eqb}
+use Rattle.std.proofs.lemmas.Bool.{eqb-false}
 use Rattle.laws.proofs.Choices.{both_chosen}
 use Rattle.answers.specs.declared.outcome.Progress.{Progress}
 use Rattle.answers.specs.declared.outcome.Progress.TheVariants.{Running, Ended}
@@ -61,14 +62,18 @@ module _ (w : ℕ) (R : Row → Row → Type 0) (alike : Alike w R) where
       rw (← same_draw (alike.same h) tape used) (tail_of_alike (drawn tape used r) tape c unit m used r s k refl h)
   tail_alike Uninitialized tape unit m used r s k h = record { rows = h; moved = refl }
 
-  rest_alike : (size : ℕ) (tape : List ℕ) (m used : ℕ) (r s : Row) → m + size / 8 < w → R r s → Both R (rest size tape m used r) (rest size tape m used s)
+  -- the word of a tail is there only where some bytes are left
+  rest_alike : (size : ℕ) (tape : List ℕ) (m used : ℕ) (r s : Row) → m + (size + 7) / 8 ≤ w → R r s → Both R (rest size tape m used r) (rest size tape m used s)
   unfolding rest
   rest_alike size tape m used r s k h =
       rw (← same_slot (alike.same h) (32 + (m + size / 8)))
-      (both_chosen (Both R) (eqb (size % 8) 0) (record { rows = h; moved = refl })
-      (tail_alike (memory_at r (m + size / 8)) tape (2 ^ (8 * (size % 8))) (m + size / 8) used r s k h))
+      (both_chosen (Both R) (eqb (size % 8) 0) (λ e. record { rows = h; moved = refl })
+      (λ n. tail_alike (memory_at r (m + size / 8)) tape (2 ^ (8 * (size % 8))) (m + size / 8) used r s (last_word n) h))
+    where
+      last_word : eqb (size % 8) 0 ≡ false → m + size / 8 < w
+      last_word n = let some : size % 8 ≡ 0 → ⊥ = eqb-false (size % 8) 0 n in omega arith
 
-  pub bytes_alike : (size : ℕ) (tape : List ℕ) (m used : ℕ) (r s : Row) → m + size / 8 < w → R r s → Both R (bytes size tape m used r) (bytes size tape m used s)
+  pub bytes_alike : (size : ℕ) (tape : List ℕ) (m used : ℕ) (r s : Row) → m + (size + 7) / 8 ≤ w → R r s → Both R (bytes size tape m used r) (bytes size tape m used s)
   unfolding bytes
   bytes_alike size tape m used r s k h =
       then_alike (rest size tape m) (λ u p q. rest_alike size tape m u p q k) (full_words_alike (size / 8) tape m used r s (omega arith) h)

@@ -7,9 +7,9 @@ chosen P true x y p q = p refl
 chosen P false x y p q = q refl
 
 -- a claim about what one test chooses on two sides, from the claim about each pair of choices
-pub both_chosen : {A B : Type 0} (P : A → B → Type 0) (b : Bool) {x y : A} {x' y' : B} → P x x' → P y y' → P (cond b x y) (cond b x' y')
-both_chosen P true p q = p
-both_chosen P false p q = q
+pub both_chosen : {A B : Type 0} (P : A → B → Type 0) (b : Bool) {x y : A} {x' y' : B} → (b ≡ true → P x x') → (b ≡ false → P y y') → P (cond b x y) (cond b x' y')
+both_chosen P true p q = p refl
+both_chosen P false p q = q refl
 
 -- a test that chooses between two that are the same
 pub same : {A : Type 0} (b : Bool) (x : A) → cond b x x ≡ x

@@ -1,5 +1,5 @@
 -- A write call that is handed out lies in memory: its check, carried through the step and the run.
-use Rattle.std.proofs.Common.{Bool, true, false, cond, List, ◌≡◌, sym, subst, ℕ, zero, suc, ◌+◌, ◌-◌, ◌/◌, ◌<◌, arith, Option, Some, None, Result, Ok, Err}
+use Rattle.std.proofs.Common.{Bool, true, false, cond, List, ◌≡◌, sym, subst, ℕ, zero, suc, ◌+◌, ◌*◌, ◌-◌, ◌/◌, ◌≤◌, Option, Some, None, Result, Ok, Err}
 use Rattle.riscu.specs.Decoding.{decoded}
 use Rattle.riscu.specs.declared.instruction.Instruction.{Instruction}
 use Rattle.answers.specs.declared.error.ExecutorError.{ExecutorError}
@@ -26,8 +26,8 @@ use Rattle.machine.specs.HandedOut.{HandedOut}
 use Rattle.machine.proofs.Kept.{stepped_marks}
 
 -- ---- by a call
-checked : (w buffer size : ℕ) (o : Outcome) → (buffer + size) / 8 < w → (concrete : Bool) → HandedOut w (cond concrete (Write buffer size) (Ended o))
-checked w buffer size o h true = omega arith
+checked : (w buffer size : ℕ) (o : Outcome) → buffer + size ≤ 8 * w → (concrete : Bool) → HandedOut w (cond concrete (Write buffer size) (Ended o))
+checked w buffer size o h true = h
 checked w buffer size o h false = tt
 
 from_transfer : (w : ℕ) (t : Result Buffer Outcome) (r : Row) → InMemory w t → HandedOut w (write_from t r)
@@ -43,7 +43,7 @@ by_call : (id : SyscallId) (tape : List ℕ) (used : ℕ) (r : Row) → HandedOu
 unfolding call_of write
 by_call call.Brk tape used r = by_progress _ (brk_progress (slot_at r a0))
 by_call call.Read tape used r = by_progress _ (read tape used r).moved.progress
-by_call call.Write tape used r = from_transfer _ (transfer_of 1 write_reasons r) r (transfer_in_memory 1 write_reasons r)
+by_call call.Write tape used r = from_transfer _ (transfer_of 1 write_reasons (memory_words r) r) r (transfer_in_memory 1 write_reasons (memory_words r) r)
 by_call call.Exit tape used r = tt
 by_call call.Unknown tape used r = tt
 

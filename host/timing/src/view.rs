@@ -69,6 +69,7 @@ macro_rules! hook {
 
 hook!(before_copies, _to_copy: usize);
 hook!(before_draw, _logged: usize);
+hook!(before_range_check, _address: u64, _size: u64);
 hook!(runs_begin,);
 hook!(run_begins,);
 hook!(step_begins, _pc: u64);

@@ -584,6 +584,9 @@ impl Executor {
         address: u64,
         size: u64,
     ) -> Option<Bug> {
+        // oracle: hook, outside the comparison if the buffer ends exactly where memory ends
+        view::before_range_check(address, size);
+
         if !self.is_in_vaddr_range(address) || !self.is_in_vaddr_range(address + size) {
             trace!(
                 "{}: buffer {:#x} - {:#x} out of virtual address range (0x0 - {:#x}) => computing reachability",

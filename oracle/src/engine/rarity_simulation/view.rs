@@ -21,6 +21,8 @@ pub enum Outside {
     Copies { to_copy: usize, left: usize },
     /// 25: the log is full
     LogFull { row: usize, pc: u64 },
+    /// 44: a buffer of read or write ends exactly where memory ends
+    EndsWithMemory { row: usize, pc: u64 },
 }
 
 /// The row whose bug or error the search chose, and the pc before its last instruction.
@@ -88,6 +90,14 @@ pub(super) fn before_draw(logged: usize) {
     if logged >= SIZES.with(|s| s.get()).log_words {
         let Place { row, pc } = latest().expect("a draw comes from a running row");
         std::panic::panic_any(Outside::LogFull { row, pc });
+    }
+}
+
+pub(super) fn before_range_check(address: u64, size: u64) {
+    let words = SIZES.with(|s| s.get()).memory_words as u64;
+    if address / 8 < words && address.checked_add(size) == Some(8 * words) {
+        let Place { row, pc } = latest().expect("a call comes from a running row");
+        std::panic::panic_any(Outside::EndsWithMemory { row, pc });
     }
 }
 
