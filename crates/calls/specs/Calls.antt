@@ -53,7 +53,7 @@ unfoldable pub brk_progress : Value → Progress
 brk_progress (Concrete wanted) = Running
 brk_progress Uninitialized = Ended (unsupported reason.BrkUninitializedAddress)
 
--- a buffer begins in a memory of w words and ends there, at the latest with the last byte; else 44 (document 02, change 5)
+-- buffer/8 is below w, and buffer + size is at most 8 × w, as whole numbers; else 44 (document 02, change 5)
 unfoldable pub valid_range : ℕ → ℕ → ℕ → Result Buffer Outcome
 valid_range buffer size w =
     cond (nat_lt (buffer / 8) w && nat_le (buffer + size) (8 * w)) (Ok (record { address = buffer; size = size }))

@@ -1,7 +1,12 @@
--- Of two gaps either is one.
-use Rattle.std.proofs.Common.{List, ℕ, inl, inr}
+-- Where the places of two gaps are unmarked, those of the longer one are.
+use Rattle.std.proofs.Common.{List, ℕ, ◌-◌, Bool, true, false, cond, ltb}
 use Rattle.marked.specs.declared.gap.Gap.{Gap}
-use Rattle.marked.specs.Gaps.{GapIn, OneOf}
+use Rattle.marked.specs.Gaps.{GapIn, longer}
 
-pub one_of : {marks : List ℕ} {a b r : Gap} → OneOf a b r → GapIn marks a → GapIn marks b → GapIn marks r
-one_of o p q = elim o.which [ inl e ↦ rw e p | inr e ↦ rw e q ]
+pub longer_gap : {marks : List ℕ} (a b : Gap) → GapIn marks a → GapIn marks b → GapIn marks (longer a b)
+unfolding longer
+longer_gap {marks} a b p q = whichever (ltb (a.to - a.from) (b.to - b.from))
+  where
+    whichever : (t : Bool) → GapIn marks (cond t b a)
+    whichever true = q
+    whichever false = p

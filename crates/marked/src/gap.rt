@@ -1,7 +1,7 @@
 // A gap: places whose marks are known to be 0, so that they need not be looked at again.
-ghost use Rattle.std.specs.Prelude.{◌≤◌, length};
+ghost use Rattle.std.specs.Prelude.{◌≡◌, ◌≤◌, length};
 ghost use Rattle.marked.specs.Marks.{Unmarked, NextMarked};
-ghost use Rattle.marked.specs.Gaps.{OneOf};
+ghost use Rattle.marked.specs.Gaps.{longer};
 
 use crate::next::{next_marked, pass_over};
 
@@ -14,10 +14,11 @@ pub struct Gap {
 
 impl Gap {
     // The longer of two gaps.
+    #[tactic(auto, unfolding(crate::specs::Gaps::longer))]
     pub fn longer(self, other: Gap) -> Gap
         requires forward { self.from ≤ self.to }
         requires other_forward { other.from ≤ other.to }
-        ensures { OneOf self other result }
+        ensures { result ≡ longer self other }
     {
         if self.to - self.from < other.to - other.from {
             other

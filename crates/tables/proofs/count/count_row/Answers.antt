@@ -1,6 +1,6 @@
 use Rattle.std.proofs.Common.{suc, ◌+◌, arith}
 use Rattle.rows.specs.Lent.{seen}
-use Rattle.marked.proofs.Chosen.{one_of}
+use Rattle.marked.proofs.Chosen.{longer_gap}
 use Rattle.counting.proofs.Bounds.{length_most}
 use Rattle.tables.proofs.Walks.{at_next}
 use Rattle.tables.proofs.Turns.{pc_room, pc_changed, pc_counted, slot_room, slot_changed, slot_counted}
@@ -35,5 +35,5 @@ loop-slot-preserved c =
       at = at_next r m;
       table = slot_changed h.at l m (λ n. n + 1) _ h.table c.count_word-in-loop-slot.ensures;
       increments = slot_counted h.at l m h.increments;
-      gap = one_of c.longer-gap.ensures h.gap m.unmarked;
+      gap = rw c.longer-gap.ensures (longer_gap _ _ h.gap m.unmarked);
     }
