@@ -14,9 +14,11 @@
  * without const, and calls nothing but memcpy and memset. Calls on different memory may run at once. A search takes 210 KiB of
  * stack, a scoring 110 KiB, a run 3 KiB, of a program or of a row, the others less than 1 KiB.
  *
- * A row, with W = memory / 8: 37 + W + log words and 32 + W marks.
- *   words: pc, break, depth, limit, log count, 32 registers, W memory words, log words
+ * A row, with W = memory / 8: 38 + W + log words and 32 + W marks.
+ *   words: pc, break, depth, limit, log count, born, 32 registers, W memory words, log words
  *   marks: one byte for each register and memory word, 1 concrete, 0 uninitialised (whose word is 0)
+ *   born: the round of the search, counted from 0, in which the row's first ancestor was created anew; a copy takes over its parent's.
+ *     An executor created outside a search has 0. In a row lent to a run or a scoring it may be any number, which is left as it was.
  * A store of n rows has exactly n times as many words and marks, row after row.
  *
  * A table to count in: 256 * (W + 320) counters of 32 bits, 459 KB with 1 KiB of memory and 135 MB with 1 MiB. It may hold anything. A call that
@@ -135,13 +137,16 @@ tavvinur_answer tavvinur_search_by_table(
 static inline size_t tavvinur_table_length(uint64_t memory) { return (size_t)(256 * (memory / 8 + 320)); }
 
 /* The words and marks of one row. */
-static inline size_t tavvinur_row_words(uint64_t memory, uint64_t log) { return (size_t)(37 + memory / 8 + log); }
+static inline size_t tavvinur_row_words(uint64_t memory, uint64_t log) { return (size_t)(38 + memory / 8 + log); }
 static inline size_t tavvinur_row_marks(uint64_t memory) { return (size_t)(32 + memory / 8); }
 
 /* The words that a row has read, in order, as many as the log count in its word 4; for a row that the library left. Those of a bug's
  * row are the keys that lead there. */
-static inline const uint64_t *tavvinur_row_inputs(const uint64_t *row, uint64_t memory) { return row + 37 + memory / 8; }
+static inline const uint64_t *tavvinur_row_inputs(const uint64_t *row, uint64_t memory) { return row + 38 + memory / 8; }
 static inline size_t tavvinur_row_input_count(const uint64_t *row) { return (size_t)row[4]; }
+
+/* How old a row's line is: the round, counted from 0, in which its first ancestor was created anew. */
+static inline uint64_t tavvinur_row_born(const uint64_t *row) { return row[5]; }
 
 #ifdef __cplusplus
 }

@@ -1,8 +1,9 @@
 """Searches for the lists and comparisons: options, programs, data and tapes, made by hand or drawn."""
 import collections
+import itertools
 import struct
 
-from model import ARITHMETIC, FIELD_BYTES, FIELDS, HARMONIC, Options, bits_of, row_sizes, table_length
+from model import ARITHMETIC, FIELD_BYTES, FIELDS, HARMONIC, Options, bits_of, rounded, row_sizes, table_length
 from programs import LEAVE, assemble_texts, label_programs, padded, random_texts, random_word
 
 Case = collections.namedtuple("Case", "name options words marks table code data tape")
@@ -240,6 +241,50 @@ def copy_searches():
         yield f"copies-{n + 1}", options, [2**64 - 1 - 7 * i for i in range(40)]
 
 
+# Keys of the rows by round. What exits is created anew in the next round, or is a copy of what is left, so that lines are begun in several
+# rounds; where all exit, the next round is all new.
+HISTORIES = {
+    "all-anew-twice": [["exit"] * 3, ["exit"] * 3],
+    "anew-then-kept": [["exit"] * 3, ["count"] * 3],
+    "kept-then-anew": [["count"] * 3, ["exit"] * 3],
+    "one-left-each-round": [["count", "exit", "exit"], ["exit", "count", "exit"]],
+    "two-left-each-round": [["count", "exit", "store"], ["count", "store", "exit"], ["exit", "count", "store"]],
+    "anew-then-one-left": [["exit"] * 3, ["store", "exit", "exit"], ["exit", "count", "exit"]],
+    "left-of-two-rounds": [["count", "exit", "exit", "exit"], ["exit", "count", "exit", "store"]],
+}
+# Keys of three rows in the last round: a bug of each in turn, an error, and neither. Other rows go on.
+LAST_KEYS = {
+    "bug-in-row-0": ["code", "count", "store"],
+    "bug-in-row-1": ["count", "zero", "code"],
+    "bug-in-row-2": ["exit", "call", "code"],
+    "error-in-row-1": ["count", "call", "exit"],
+    "nothing": ["count", "exit", "store"],
+}
+
+
+def some_are_left(keys):
+    return 0 < keys.count("exit") < len(keys)
+
+
+def aged_tape(rounds, ratio):
+    """The keys of these rounds, and before each the words by which copies are drawn where some rows are left."""
+    tape, copies = [], 0
+    for keys in rounds:
+        tape += [2**64 - 1 - len(tape)] * copies + keys
+        copies = rounded(keys.count("exit") * ratio) if some_are_left(keys) else 0
+    return tape
+
+
+def aged_searches():
+    """Lines begun in the first round and in later ones, copies of copies among them, with what the last round meets in each row."""
+    for history, rounds in HISTORIES.items():
+        ratios = (0.0, 0.5, 1.0) if any(map(some_are_left, rounds)) else (1.0,)
+        for ratio, (last, keys) in itertools.product(ratios, LAST_KEYS.items()):
+            states = len(rounds[0])
+            tape = aged_tape([*rounds, keys + ["count"] * (states - len(keys))], ratio)
+            yield picked(f"{history}-{ratio}-{last}", tape, states=states, selection=states, rounds=len(rounds) + 1, ratio=ratio)
+
+
 WHOLE = [0x05D00893, 0x00300513, 0x00000073, 0x00000073]
 
 # Goes on for ever, and reads nothing.
@@ -258,6 +303,8 @@ def hand_cases(pick, turning, pick_at_the_end):
         yield case(name, options, (0, pick), tape=tape)
     for name, options, tape in list(pick_searches())[::PICKS_TO_ONE_AT_THE_END]:
         yield case(f"{name}-at-the-end", options, (0, pick_at_the_end), tape=tape)
+    for name, options, tape in aged_searches():
+        yield case(name, options, (0, pick), tape=tape)
     for name, options, tape in copy_searches():
         yield case(name, options, (0, turning), tape=tape)
 

@@ -42,13 +42,22 @@ def check_names(names):
     need(len(set(names)) == len(names), "two cases have one name")
 
 
+def need_often(what, given, must_occur, least):
+    """Each of these numbers occurs often enough."""
+    numbers = collections.Counter(given)
+    print(f"{what}: " + ", ".join(f"{number} {numbers[number]} times" for number in sorted(numbers)))
+    for wanted in must_occur:
+        need(numbers[wanted] >= least, f"{what}: {wanted} occurs {numbers[wanted]} times")
+
+
 def need_each(call, given, must_occur, least):
     """Each number that the call gives, and no other, occurs often enough."""
-    numbers = collections.Counter(given)
-    print(f"{call}: " + ", ".join(f"{number} {numbers[number]} times" for number in sorted(numbers)))
-    for wanted in must_occur:
-        need(numbers[wanted] >= least, f"number {wanted} occurs {numbers[wanted]} times")
-    need(set(numbers) == set(must_occur), "a number that the call does not give")
+    need_often(call, given, must_occur, least)
+    need(set(given) == set(must_occur), f"{call}: a number that the call does not give")
+
+
+# Rounds in which lines of bugs must have been begun, in the lists of whole searches.
+ROUNDS_OF_BUGS = range(4)
 
 
 # --- lent tables ---

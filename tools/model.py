@@ -1,5 +1,6 @@
 """A model of the scope paper: one executor on its row, the entries over one row, scoring, whole searches, and sheets; and of
-document 02's run at the counter, of its calls that count in a lent table and of its buffers that may end with memory.
+document 02's run at the counter, of its calls that count in a lent table, of its buffers that may end with memory and of its rows that tell
+in which round their line was begun.
 
 A second reading of the paper that shares nothing with the Rattle code. The tools that make the lists in crates/*/data ask it
 what each case must come to; mksheet and explain have from it what a sheet is, what refuses it, and the instructions.
@@ -13,7 +14,7 @@ MASK = 2**64 - 1
 
 # --- one executor ---
 
-PC, BREAK, DEPTH, LIMIT, LOG_COUNT, HEADER = range(6)
+PC, BREAK, DEPTH, LIMIT, LOG_COUNT, BORN, HEADER = range(7)
 REGISTERS = 32
 X0, SP, T0, T1, A0, A1, A2, A7 = 0, 2, 5, 6, 10, 11, 12, 17
 
@@ -326,8 +327,8 @@ def row_refused(words, marks, log):
     return 9 if bad or (slots[0], marks[0]) != (0, 1) or words[LIMIT] > 2**63 else 0
 
 
-def new_row(memory, log, segments):
-    """Words and marks of a new executor; code comes before data in the segments."""
+def new_row(memory, log, segments, born=0):
+    """Words and marks of a new executor, created in this round of a search, 0 outside one; code comes before data in the segments."""
     words, marks = ([0] * size for size in row_sizes(memory, log))
     made = Executor(words, marks, memory, log, [])
     made.set_slot(SP, memory - 8)
@@ -337,7 +338,7 @@ def new_row(memory, log, segments):
         for at in range(0, len(content), 8):
             made.set_word(address // 8 + at // 8, int.from_bytes(content[at : at + 8], "little"))
     (code, _), (data, content) = segments
-    words[PC], words[BREAK] = code, data + len(content)
+    words[PC], words[BREAK], words[BORN] = code, data + len(content), born
     return words, marks
 
 
@@ -464,8 +465,8 @@ class Search:
         return Found(number, row, pc, value, self.used)
 
     def search(self):
-        for _ in range(self.options.rounds):
-            if not self.fill():
+        for current in range(self.options.rounds):
+            if not self.fill(current):
                 return self.found(TAPE_SHORT)
             self.answers = [self.run(row) for row in self.rows]
             ended = first_bug_or_error(self.answers)
@@ -476,8 +477,9 @@ class Search:
             self.rows = rarest(running, self.options.mean, self.options.selection)
         return self.found(0)
 
-    def fill(self):
-        """Copies of kept rows, then new executors; nothing is done where the tape has too few words for the copies."""
+    def fill(self, current):
+        """Copies of kept rows, then executors created anew in this round; nothing is done where the tape has too few words for the copies. A
+        copy has all its parent's words, so also the round in which its line was begun."""
         o, kept = self.options, len(self.rows)
         missing = o.states - kept
         copies = rounded(float(missing) * o.ratio) if kept else 0
@@ -487,7 +489,7 @@ class Search:
             words, marks = self.rows[word % kept]
             self.rows.append((list(words), list(marks)))
         self.used += copies
-        self.rows += [new_row(o.memory, o.log, self.segments) for _ in range(missing - copies)]
+        self.rows += [new_row(o.memory, o.log, self.segments, current) for _ in range(missing - copies)]
         return True
 
     def run(self, row):
@@ -497,12 +499,12 @@ class Search:
         self.met_the_end |= executor.met_the_end
         return answer
 
-    def inputs(self, found):
-        """The words that the row of a bug has logged; an error tells none."""
+    def told(self, found):
+        """Of the row of a bug: the one round in which its line was begun, and the words that it has logged; an error tells neither."""
         if found.number not in BUGS:
-            return []
+            return [], []
         words, log = self.rows[found.row][0], self.options.log
-        return words[len(words) - log :][: words[LOG_COUNT]]
+        return [words[BORN]], words[len(words) - log :][: words[LOG_COUNT]]
 
     def store(self):
         """All words and all marks."""
@@ -602,9 +604,10 @@ def read_sheet(sheet, bench=True):
     return 0, Asked(options, segments, list(struct.unpack(f"<{header.tape_words}Q", tape)))
 
 
-def lines_of(found, inputs=()):
-    """The printed lines of an answer."""
-    lines = ["answer {} row {} pc {} value {}".format(*found), *(f"input {word}" for word in inputs), f"used {found.used}"]
+def lines_of(found, born=(), inputs=()):
+    """The printed lines of an answer, with what is told of a bug's row."""
+    lines = ["answer {} row {} pc {} value {}".format(*found), *(f"born {current}" for current in born)]
+    lines += [*(f"input {word}" for word in inputs), f"used {found.used}"]
     return "".join(line + "\n" for line in lines)
 
 
@@ -623,9 +626,21 @@ def fnv1a(content):
     return h
 
 
-def store_lines(words, marks):
-    """Digests of the words and of the marks that a call leaves, for hosts."""
-    return f"words {fnv1a(struct.pack(f'<{len(words)}Q', *words)):016x}\nmarks {fnv1a(bytes(marks)):016x}\n"
+def words_digest(words):
+    return f"{fnv1a(struct.pack(f'<{len(words)}Q', *words)):016x}"
+
+
+def without_borns(words, rows):
+    """The words of so many rows but for the round that each tells."""
+    row_words = len(words) // rows
+    return [word for at, word in enumerate(words) if at % row_words != BORN]
+
+
+def store_lines(words, marks, rows):
+    """Digests of what a call leaves, for hosts: of all words but the rounds that the rows tell, of the marks, and of these rounds."""
+    borns = words[BORN :: len(words) // rows]
+    lines = f"words {words_digest(without_borns(words, rows))}\nmarks {fnv1a(bytes(marks)):016x}\n"
+    return lines + f"borns {words_digest(borns)}\n"
 
 
 def printed(sheet, bench=True):
@@ -637,7 +652,7 @@ def printed(sheet, bench=True):
     if number:
         return lines_of(Found(number, 0, 0, 0, 0))
     found = search.search()
-    return lines_of(found, search.inputs(found)) + ("" if bench else store_lines(*search.store()))
+    return lines_of(found, *search.told(found)) + ("" if bench else store_lines(*search.store(), asked.options.states))
 
 
 # The output that a host lends where it runs a sheet at the counter, and what stands in it before.
@@ -660,4 +675,4 @@ def printed_order(sheet):
     answer = run_program(words, marks, o.memory, o.log, o.step, asked.segments, asked.tape, output)
     if answer.number in REFUSALS:
         return order_lines(answer)
-    return order_lines(answer) + store_lines(words, marks) + f"output {fnv1a(output):016x}\n"
+    return order_lines(answer) + store_lines(words, marks, rows=1) + f"output {fnv1a(output):016x}\n"

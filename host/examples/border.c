@@ -1,6 +1,6 @@
 /* Looks at every place of the border to C: each field of the options and of an answer, and each argument. All have values of their
  * own, so that two that are exchanged, in the header or in the library, are seen. What is expected was worked out without the library:
- * the search by the oracle, the runs and the scores by tools/model.py. */
+ * the search by the oracle, the runs and the scores by tools/model.py, and by hand which round a line was born in. */
 #undef NDEBUG
 #include <assert.h>
 #include <stdio.h>
@@ -8,10 +8,17 @@
 
 #include "../tavvinur.h"
 #include "scale.h"
+#include "servings.h"
 #include "slip.h"
 
 enum { MEMORY = 1024, LOG = 24, STATES = 7, STEP = 25, TAPE = 500, CODE_ADDRESS = 0x40, DATA_ADDRESS = 0x300 };
-enum { W = MEMORY / 8, WORDS = 37 + W + LOG, MARKS = 32 + W, ROWS = 3, TABLE = 256 * (W + 320) };
+enum { W = MEMORY / 8, WORDS = 38 + W + LOG, MARKS = 32 + W, ROWS = 3, TABLE = 256 * (W + 320) };
+
+/* Places in a row. */
+enum { PC, BREAK, DEPTH, LIMIT, LOG_COUNT, BORN, REGISTERS, MEMORY_WORDS = REGISTERS + 32 };
+
+/* What a caller may choose to have in a row's word born. */
+static const uint64_t chosen = UINT64_MAX;
 
 static uint64_t words[STATES * WORDS];
 static uint8_t marks[STATES * MARKS];
@@ -98,6 +105,8 @@ static void look_at_inputs(void)
     for (size_t i = 0; i < 11; i++)
         sum += inputs[i] % 10;
     assert(sum == 41);
+    /* the row is a copy made in round 4, where the search ends, and its limit says that its line has run in five rounds, 0 to 4 */
+    assert(row[LIMIT] == 5 * STEP && tavvinur_row_born(row) == 0);
 }
 
 static void exchange_counts(uint32_t *a, uint32_t *b)
@@ -132,6 +141,68 @@ static void look_at_lengths(void)
     assert(tavvinur_table_length(MEMORY) == TABLE);
 }
 
+/* --- which round a line was born in --- */
+
+enum { LINE_MEMORY = 2048, LINE_LOG = 3, LINE_ROWS = 3, LINE_STEP = 24, LINE_ROUNDS = 3 };
+enum { LINE_WORDS = 38 + LINE_MEMORY / 8 + LINE_LOG, LINE_MARKS = 32 + LINE_MEMORY / 8, LINE_TABLE = 256 * (LINE_MEMORY / 8 + 320) };
+
+static uint64_t line_words[LINE_ROWS * LINE_WORDS];
+static uint8_t line_marks[LINE_ROWS * LINE_MARKS];
+static uint32_t line_table[LINE_TABLE];
+
+/* Keys for a printer without servings, where print divides by zero. A new executor leaves with 0 after 23 instructions, so that its row is
+ * removed in its first round, or asks for a second key in its second. Where one row goes on, a copy has no other parent. */
+enum { PRINT = 3, LEAVE = 4, PASS = 5, ONLY_PARENT = 0 };
+
+static const uint64_t line_tape[] = {
+    LEAVE, LEAVE, LEAVE,                   /* round 0: no row goes on */
+    LEAVE, PASS, LEAVE,                    /* round 1: all rows are new, and the second goes on */
+    ONLY_PARENT, PASS, PASS, PRINT, PASS}; /* round 2: that row, with two keys, then a copy of it, which prints, and a new row */
+
+enum { LINE_TAPE = sizeof line_tape / sizeof *line_tape };
+
+/* The copy has its parent's round, not its own. */
+static void look_at_lines(tavvinur_answer a)
+{
+    static const uint64_t born[LINE_ROWS] = {1, 1, 2};
+    const uint64_t *row = line_words + 1 * tavvinur_row_words(LINE_MEMORY, LINE_LOG);
+    assert(is(a, 41, 1, 128, 0, LINE_TAPE));
+    assert(tavvinur_row_input_count(row) == 2);
+    assert(tavvinur_row_inputs(row, LINE_MEMORY)[0] == PASS && tavvinur_row_inputs(row, LINE_MEMORY)[1] == PRINT);
+    for (size_t r = 0; r < LINE_ROWS; r++) {
+        assert(tavvinur_row_born(line_words + r * LINE_WORDS) == born[r]);
+        line_words[r * LINE_WORDS + BORN] = chosen;
+    }
+}
+
+static void look_at_births(void)
+{
+    static const uint8_t no_servings[8] = {0};
+    tavvinur_options o = {LINE_MEMORY, LINE_ROWS, LINE_STEP, 1, LINE_ROUNDS, TAVVINUR_HARMONIC, 0.5};
+    look_at_lines(tavvinur_search(
+        line_words, LINE_ROWS * LINE_WORDS, line_marks, LINE_ROWS * LINE_MARKS, o, LINE_LOG, 0, servings_code, sizeof servings_code,
+        DATA_ADDRESS, no_servings, sizeof no_servings, line_tape, LINE_TAPE));
+    look_at_lines(tavvinur_search_by_table(
+        line_words, LINE_ROWS * LINE_WORDS, line_marks, LINE_ROWS * LINE_MARKS, line_table, LINE_TABLE, o, LINE_LOG, 0, servings_code,
+        sizeof servings_code, DATA_ADDRESS, no_servings, sizeof no_servings, line_tape, LINE_TAPE));
+}
+
+/* Rows without the word born, of 37 + W + log words, are refused, and left as they are. */
+static void look_at_shorter_rows(void)
+{
+    enum { SHORTER = WORDS - 1 };
+    double scores[STATES];
+    uint32_t mean = TAVVINUR_HARMONIC;
+    words[BORN] = chosen;
+    assert(is(tavvinur_run(words, SHORTER, marks, MARKS, MEMORY, LOG, STEP, tape, TAPE), 5, 0, 0, 0, 0));
+    assert(tavvinur_score(words, STATES * SHORTER, marks, STATES * MARKS, MEMORY, LOG, STATES, mean, scores, STATES) == 5);
+    tavvinur_answer a = tavvinur_search(
+        words, STATES * SHORTER, marks, STATES * MARKS, asked(), LOG, CODE_ADDRESS, scale_code, sizeof scale_code, DATA_ADDRESS, scale_data,
+        sizeof scale_data, tape, TAPE);
+    assert(is(a, 5, 0, 0, 0, 0));
+    assert(words[BORN] == chosen);
+}
+
 /* --- rows by themselves --- */
 
 static uint64_t word_of(const uint8_t *bytes)
@@ -144,12 +215,14 @@ static uint64_t word_of(const uint8_t *bytes)
 
 static void look_at_creation(size_t r)
 {
-    uint64_t *row = words + r * WORDS, *memory = row + 37;
+    uint64_t *row = words + r * WORDS, *memory = row + MEMORY_WORDS;
     uint8_t *marked = marks + r * MARKS;
+    row[BORN] = chosen;
     uint64_t number = tavvinur_new_executor(
         row, WORDS, marked, MARKS, MEMORY, LOG, CODE_ADDRESS, scale_code, sizeof scale_code, DATA_ADDRESS, scale_data, sizeof scale_data);
     assert(number == 0);
-    assert(row[0] == CODE_ADDRESS && row[1] == DATA_ADDRESS + sizeof scale_data && row[5 + 2] == MEMORY - 8);
+    assert(row[PC] == CODE_ADDRESS && row[BREAK] == DATA_ADDRESS + sizeof scale_data && row[REGISTERS + 2] == MEMORY - 8);
+    assert(tavvinur_row_born(row) == 0);
     for (size_t i = 0; i < sizeof scale_code / 8; i++)
         assert(memory[CODE_ADDRESS / 8 + i] == word_of(scale_code + 8 * i));
     for (size_t i = 0; i < sizeof scale_data / 8; i++)
@@ -161,16 +234,19 @@ static void look_at_creation(size_t r)
     assert(concrete == 3 + (sizeof scale_code + sizeof scale_data) / 8);
 }
 
-/* One row runs to its bug in two calls, one until its tape of one word is empty, one to its limit. */
+/* One row runs to its bug in two calls, one until its tape of one word is empty, one to its limit. Each keeps the word born that was chosen
+ * for it; the scores after that are the same with any. */
 static void look_at_runs(void)
 {
     uint64_t *second = words + WORDS, *third = second + WORDS;
     uint8_t *second_marks = marks + MARKS, *third_marks = second_marks + MARKS;
+    words[BORN] = chosen, second[BORN] = chosen - 1, third[BORN] = chosen - 2;
     assert(is(tavvinur_run(words, WORDS, marks, MARKS, MEMORY, LOG, STEP, tape, TAPE), 22, 0, 84, 0, 2));
     assert(is(tavvinur_run(words, WORDS, marks, MARKS, MEMORY, LOG, 1000, tape + 2, TAPE - 2), 45, 0, 124, 43, 8));
     assert(tavvinur_row_input_count(words) == 10 && tavvinur_row_inputs(words, MEMORY)[9] == tape[9]);
     assert(is(tavvinur_run(second, WORDS, second_marks, MARKS, MEMORY, LOG, STEP, tape + 20, 1), 24, 0, 92, 0, 1));
     assert(is(tavvinur_run(third, WORDS, third_marks, MARKS, MEMORY, LOG, 10, tape + 20, TAPE - 20), 22, 0, 104, 0, 1));
+    assert(words[BORN] == chosen && second[BORN] == chosen - 1 && third[BORN] == chosen - 2);
 }
 
 /* The slip of two weights out of three; the output is longer than the slip. */
@@ -185,8 +261,7 @@ static void look_at_program(void)
     assert(memcmp(output, weights + 3, 13) == 0);
     for (size_t i = 13; i < sizeof output; i++)
         assert(output[i] == 0xa5);
-    /* depth and limit */
-    assert(words[2] == 13 && words[3] == 100);
+    assert(words[DEPTH] == 13 && words[LIMIT] == 100 && tavvinur_row_born(words) == 0);
     assert(tavvinur_row_input_count(words) == 2 && tavvinur_row_inputs(words, MEMORY)[1] == tape[1]);
 }
 
@@ -223,6 +298,8 @@ int main(void)
     look_at_search(finds);
     look_at_search(finds_by_table);
     look_at_table();
+    look_at_births();
+    look_at_shorter_rows();
     for (size_t r = 0; r < ROWS; r++)
         look_at_creation(r);
     look_at_runs();

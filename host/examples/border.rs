@@ -1,18 +1,21 @@
 //! Looks at every place of the border to Rust, as border.c at that to C: each field of the options and of an answer, and each argument.
 //! All have values of their own, so that two that are exchanged, in the module or in the library, are seen. What is expected was worked out
-//! without the library: the search by the oracle, the runs and the scores by tools/model.py.
+//! without the library: the search by the oracle, the runs and the scores by tools/model.py, and by hand which round a line was born in.
 
 #[allow(dead_code)]
 #[path = "../rust/tavvinur.rs"]
 mod tavvinur;
 
 mod scale;
+#[allow(dead_code)]
+mod servings;
 mod slip;
 
 use std::{convert::TryInto, mem::swap};
 use tavvinur::{
-    inputs, new_executor, row_marks, row_words, run, run_program, score, score_by_table, search,
-    search_by_table, table_length, Answer, Options, Printed, Program, ARITHMETIC, HARMONIC,
+    inputs, new_executor, row_born, row_marks, row_words, run, run_program, score, score_by_table,
+    search, search_by_table, table_length, Answer, Options, Printed, Program, Refused, ARITHMETIC,
+    HARMONIC,
 };
 
 const MEMORY: u64 = 1024;
@@ -20,10 +23,18 @@ const LOG: u64 = 24;
 const STATES: u64 = 7;
 const STEP: u32 = 25;
 const TAPE: usize = 500;
-const WORDS: usize = 37 + 128 + 24;
+const WORDS: usize = 38 + 128 + 24;
 const MARKS: usize = 32 + 128;
 const ROWS: usize = 3;
 const TABLE: usize = 256 * (128 + 320);
+
+/// Places in a row.
+const LIMIT: usize = 3;
+const BORN: usize = 5;
+const MEMORY_WORDS: usize = 6 + 32;
+
+/// What a caller may choose to have in a row's word born.
+const CHOSEN: u64 = u64::MAX;
 
 /// What stands in a table before a call.
 const DIRT: u32 = 0xa5a5_a5a5;
@@ -115,7 +126,7 @@ fn search_in_table(
     program: &Program,
     tape: &[u64],
 ) -> Answer {
-    let mut table = vec![DIRT; TABLE];
+    let mut table = vec![DIRT; table_length(options.memory_size)];
     let answer = search_by_table(words, marks, &mut table, options, log, program, tape);
     let refused = matches!(answer.number, 1..=7 | 53);
     let left = if refused { DIRT } else { 0 };
@@ -140,6 +151,84 @@ fn look_at_search(search: Search, tape: &[u64]) {
     let log = inputs(&words, MEMORY, LOG, FOUND[1]);
     assert_eq!(log.len(), 11);
     assert_eq!(log.iter().map(|input| input % 10).sum::<u64>(), FOUND[3]);
+    // the row is a copy made in round 4, where the search ends, and its limit says that its line has run in five rounds, 0 to 4
+    let limit = words[FOUND[1] as usize * WORDS + LIMIT];
+    assert_eq!(limit, 5 * u64::from(STEP));
+    assert_eq!(row_born(&words, MEMORY, LOG, FOUND[1]), 0);
+}
+
+const LINE_MEMORY: u64 = 2048;
+const LINE_LOG: u64 = 3;
+const LINE_ROWS: u64 = 3;
+
+/// A printer without servings, where print divides by zero. A new executor leaves with 0 after 23 instructions, so that its row is
+/// removed in its first round, or asks for a second key in its second.
+const NO_SERVINGS: Program = Program {
+    code_address: 0,
+    code: &servings::SERVINGS_CODE,
+    data_address: 0x300,
+    data: &[0; 8],
+};
+
+const PRINT: u64 = 3;
+const LEAVE: u64 = 4;
+const PASS: u64 = 5;
+
+/// For a copy, where one row goes on.
+const ONLY_PARENT: u64 = 0;
+
+#[rustfmt::skip]
+const LINE_TAPE: [u64; 11] = [
+    // round 0: no row goes on
+    LEAVE, LEAVE, LEAVE,
+    // round 1: all rows are new, and the second goes on
+    LEAVE, PASS, LEAVE,
+    // round 2: that row, with two keys, then a copy of it, which prints, and a new row
+    ONLY_PARENT, PASS, PASS, PRINT, PASS,
+];
+
+/// The copy has its parent's round, not its own.
+fn look_at_births(search: Search) {
+    let options = Options {
+        memory_size: LINE_MEMORY,
+        amount_of_states: LINE_ROWS,
+        step_size: 24,
+        selection: 1,
+        iterations: 3,
+        mean: HARMONIC,
+        copy_init_ratio: 0.5,
+    };
+    let mut words = vec![CHOSEN; LINE_ROWS as usize * row_words(LINE_MEMORY, LINE_LOG)];
+    let mut marks = vec![0; LINE_ROWS as usize * row_marks(LINE_MEMORY)];
+    let answer = search(
+        &mut words,
+        &mut marks,
+        &options,
+        LINE_LOG,
+        &NO_SERVINGS,
+        &LINE_TAPE,
+    );
+    assert_eq!(parts(answer), [41, 1, 128, 0, LINE_TAPE.len() as u64]);
+    let log = inputs(&words, LINE_MEMORY, LINE_LOG, answer.row);
+    assert_eq!(log, [PASS, PRINT]);
+    let born = [0, 1, 2].map(|row| row_born(&words, LINE_MEMORY, LINE_LOG, row));
+    assert_eq!(born, [1, 1, 2]);
+}
+
+/// Rows without the word born, of 37 + W + log words, are refused, and left as they are.
+fn look_at_shorter_rows(tape: &[u64]) {
+    let mut words = vec![CHOSEN; STATES as usize * (WORDS - 1)];
+    let mut marks = vec![1; STATES as usize * MARKS];
+    let mut scores = [0.0; STATES as usize];
+    let scored = score(&words, &marks, MEMORY, LOG, STATES, HARMONIC, &mut scores);
+    assert_eq!(scored, Err(Refused(5)));
+    let refused = [5, 0, 0, 0, 0];
+    let answer = search(&mut words, &mut marks, &ASKED, LOG, &PROGRAM, tape);
+    assert_eq!(parts(answer), refused);
+    let (row, marks) = (&mut words[..WORDS - 1], &mut marks[..MARKS]);
+    let answer = run(row, marks, MEMORY, LOG, STEP, tape);
+    assert_eq!(parts(answer), refused);
+    assert!(words.iter().all(|word| *word == CHOSEN));
 }
 
 fn words_of(bytes: &[u8]) -> Vec<u64> {
@@ -148,11 +237,13 @@ fn words_of(bytes: &[u8]) -> Vec<u64> {
 }
 
 fn look_at_creation(words: &mut [u64], marks: &mut [u8]) {
+    words[BORN] = CHOSEN;
     assert_eq!(new_executor(words, marks, MEMORY, LOG, &PROGRAM), Ok(()));
     let end = PROGRAM.data_address + PROGRAM.data.len() as u64;
     assert_eq!((words[0], words[1]), (PROGRAM.code_address, end));
     let (code, data) = (words_of(PROGRAM.code), words_of(PROGRAM.data));
-    let memory = &words[37..];
+    assert_eq!(row_born(words, MEMORY, LOG, 0), 0);
+    let memory = &words[MEMORY_WORDS..];
     assert_eq!(memory[0x40 / 8..][..code.len()], code[..]);
     assert_eq!(memory[0x300 / 8..][..data.len()], data[..]);
     // x0, sp and the word that sp points to, beside code and data
@@ -160,8 +251,13 @@ fn look_at_creation(words: &mut [u64], marks: &mut [u8]) {
     assert_eq!(concrete, 3 + code.len() + data.len());
 }
 
-/// One row runs to its bug in two calls, one until its tape of one word is empty, one to its limit.
+/// One row runs to its bug in two calls, one until its tape of one word is empty, one to its limit. Each keeps the word born that was chosen
+/// for it; the scores after that are the same with any.
 fn look_at_runs(words: &mut [u64], marks: &mut [u8], tape: &[u64]) {
+    let chosen = [CHOSEN, CHOSEN - 1, CHOSEN - 2];
+    for (row, born) in words.chunks_mut(WORDS).zip(chosen) {
+        row[BORN] = born;
+    }
     let mut ran = |row: usize, step, tape| {
         let words = &mut words[row * WORDS..][..WORDS];
         let marks = &mut marks[row * MARKS..][..MARKS];
@@ -172,6 +268,8 @@ fn look_at_runs(words: &mut [u64], marks: &mut [u8], tape: &[u64]) {
     assert_eq!(ran(1, STEP, &tape[20..21]), [24, 0, 92, 0, 1]);
     assert_eq!(ran(2, 10, &tape[20..]), [22, 0, 104, 0, 1]);
     assert_eq!(inputs(words, MEMORY, LOG, 0), &tape[..10]);
+    let born = [0, 1, 2].map(|row| row_born(words, MEMORY, LOG, row));
+    assert_eq!(born, chosen);
 }
 
 fn look_at_scores(words: &[u64], marks: &[u8]) {
@@ -229,6 +327,7 @@ fn look_at_program(words: &mut [u64], marks: &mut [u8], tape: &[u64]) {
     assert_eq!(output[13..], [0xa5; 7]);
     // depth and limit
     assert_eq!(words[2..4], [13, 100]);
+    assert_eq!(row_born(words, MEMORY, LOG, 0), 0);
     assert_eq!(inputs(words, MEMORY, LOG, 0), &tape[..2]);
 }
 
@@ -238,6 +337,9 @@ fn main() {
     look_at_lengths();
     look_at_search(search, &tape);
     look_at_search(search_in_table, &tape);
+    look_at_births(search);
+    look_at_births(search_in_table);
+    look_at_shorter_rows(&tape);
     let mut words = vec![0; ROWS * WORDS];
     let mut marks = vec![0; ROWS * MARKS];
     for (w, m) in words.chunks_mut(WORDS).zip(marks.chunks_mut(MARKS)) {

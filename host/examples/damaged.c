@@ -1,5 +1,6 @@
 /* Calls every export with wrong lengths, wrong options and damaged rows: each is refused by its number, and nothing that was lent
- * has changed. Then the nearest calls that are accepted. Each slice is a heap block of its exact size, so that valgrind sees a step past its end. */
+ * has changed. Then the nearest calls that are accepted, also with any bit of a row's word born changed. Each slice is a heap block of its
+ * exact size, so that valgrind sees a step past its end. */
 #undef NDEBUG
 #include <assert.h>
 #include <math.h>
@@ -11,7 +12,10 @@
 #include "servings.h"
 #include "slip.h"
 
-enum { MEMORY = 1024, LOG = 4, W = MEMORY / 8, ROWS = 3, WORDS = 37 + W + LOG, MARKS = 32 + W, DATA = 0x300, TABLE = 256 * (W + 320) };
+enum { MEMORY = 1024, LOG = 4, W = MEMORY / 8, ROWS = 3, WORDS = 38 + W + LOG, MARKS = 32 + W, DATA = 0x300, TABLE = 256 * (W + 320) };
+
+/* Places in a row. */
+enum { PC, BREAK, DEPTH, LIMIT, LOG_COUNT, BORN, REGISTERS, MEMORY_WORDS = REGISTERS + 32, LOG_WORDS = MEMORY_WORDS + W };
 
 static unsigned cases;
 
@@ -169,9 +173,9 @@ static void accept_creation(void)
     assert(tavvinur_new_executor(words.lent, WORDS, marks.lent, MARKS, MEMORY, LOG, UINT64_MAX, code.lent, 0, MEMORY - 8, data.lent, 8) == 0);
     uint64_t *w = words.lent;
     uint8_t *m = marks.lent;
-    assert(w[0] == UINT64_MAX && w[1] == MEMORY && w[2] == 0 && w[3] == 0 && w[4] == 0);
-    assert(w[5] == 0 && m[0] == 1 && w[5 + 2] == MEMORY - 8 && m[2] == 1);
-    assert(w[5 + 32 + W - 1] == servings_data[0] && m[32 + W - 1] == 1);
+    assert(w[PC] == UINT64_MAX && w[BREAK] == MEMORY && w[DEPTH] == 0 && w[LIMIT] == 0 && w[LOG_COUNT] == 0 && w[BORN] == 0);
+    assert(w[REGISTERS] == 0 && m[0] == 1 && w[REGISTERS + 2] == MEMORY - 8 && m[2] == 1);
+    assert(w[LOG_WORDS - 1] == servings_data[0] && m[MARKS - 1] == 1);
     cases++;
     is_kept(code), is_kept(data);
     drop(words), drop(marks);
@@ -198,18 +202,18 @@ typedef struct {
 } damage;
 
 static const damage damages[] = {
-    {NOTHING, 0, 1, 2},                        /* a mark that is not 0 or 1 */
+    {NOTHING, 0, 1, 2},                           /* a mark that is not 0 or 1 */
     {NOTHING, 0, MARKS - 1, 255},
-    {5 + 1, 1, NOTHING, 0},                    /* an unmarked word that is not 0 */
-    {NOTHING, 0, 2, 0},                        /* sp unmarked, its word not 0 */
-    {5 + 32 + W - 2, 9, NOTHING, 0},
-    {4, LOG + 1, NOTHING, 0},                  /* a log count above the log */
-    {4, UINT64_MAX, NOTHING, 0},
-    {5 + 32 + W, 1, NOTHING, 0},               /* a log word past the count */
+    {REGISTERS + 1, 1, NOTHING, 0},               /* an unmarked word that is not 0 */
+    {NOTHING, 0, 2, 0},                           /* sp unmarked, its word not 0 */
+    {LOG_WORDS - 2, 9, NOTHING, 0},
+    {LOG_COUNT, LOG + 1, NOTHING, 0},             /* a log count above the log */
+    {LOG_COUNT, UINT64_MAX, NOTHING, 0},
+    {LOG_WORDS, 1, NOTHING, 0},                   /* a log word past the count */
     {WORDS - 1, 1, NOTHING, 0},
-    {5, 1, NOTHING, 0},                        /* register 0 is not 0 */
-    {NOTHING, 0, 0, 0},                        /* register 0 is not marked */
-    {3, (UINT64_C(1) << 63) + 1, NOTHING, 0},  /* a limit above 2^63 */
+    {REGISTERS, 1, NOTHING, 0},                   /* register 0 is not 0 */
+    {NOTHING, 0, 0, 0},                           /* register 0 is not marked */
+    {LIMIT, (UINT64_C(1) << 63) + 1, NOTHING, 0}, /* a limit above 2^63 */
 };
 
 static void damage_row(uint64_t *words, uint8_t *marks, damage d)
@@ -253,6 +257,27 @@ static void accept_runs(void)
     drop(words), drop(marks), drop(none);
 }
 
+/* Two runs of a row: as it is, and with one bit of its word born changed, which is all that differs after them. */
+static void run_with_bit(int bit)
+{
+    block words = lend(rows_words, 8 * WORDS), marks = lend(rows_marks, MARKS), none = lend(NULL, 0);
+    uint64_t *changed = words.copy;
+    changed[BORN] ^= UINT64_C(1) << bit;
+    tavvinur_answer a = tavvinur_run(words.lent, WORDS, marks.lent, MARKS, MEMORY, LOG, 100, none.lent, 0);
+    tavvinur_answer b = tavvinur_run(words.copy, WORDS, marks.copy, MARKS, MEMORY, LOG, 100, none.lent, 0);
+    assert(a.number == 44 && memcmp(&a, &b, sizeof a) == 0);
+    assert(changed[BORN] == UINT64_C(1) << bit);
+    changed[BORN] = 0;
+    cases += 2;
+    is_kept(words), is_kept(marks), drop(none);
+}
+
+static void run_with_any_born(void)
+{
+    for (int bit = 0; bit < 64; bit++)
+        run_with_bit(bit);
+}
+
 /* --- scoring, without a table and by one --- */
 
 /* What is told and lent, and both numbers; without a table 0 where the other call alone is refused. */
@@ -280,6 +305,7 @@ static const scoring scorings[] = {
     {MEMORY, LOG, ROWS, 1, ALL_WORDS, ALL_MARKS, TABLE, ROWS + 1, 5, 5},
     {MEMORY, LOG, ROWS, 1, ALL_WORDS, ALL_MARKS, TABLE - 1, 0, 5, 5},
     {MEMORY, LOG, ROWS, 1, ALL_WORDS - 1, ALL_MARKS, TABLE + 1, ROWS, 5, 5},
+    {MEMORY, LOG, ROWS, 1, ALL_WORDS - ROWS, ALL_MARKS, TABLE, ROWS, 5, 5}, /* no row has the word born */
     {MEMORY, LOG, ROWS, 1, ALL_WORDS, ALL_MARKS - 1, 0, ROWS, 5, 5},
     {MEMORY, LOG, ROWS, 1, ALL_WORDS, ALL_MARKS, TABLE - 1, ROWS, 0, 32},
     {MEMORY, LOG, ROWS, 1, ALL_WORDS, ALL_MARKS, TABLE + 1, ROWS, 0, 32},
@@ -331,21 +357,39 @@ static uint64_t increments(void)
     return 8 * words;
 }
 
-static void accept_score(void)
+/* Gives the score that all rows have, which are the same but for their words born. */
+static double accept_score(block words, uint32_t mean)
+{
+    block marks = store_marks(), table = lend(NULL, 4 * TABLE), scores = lend(NULL, 8 * ROWS);
+    assert(tavvinur_score(words.lent, ALL_WORDS, marks.lent, ALL_MARKS, MEMORY, LOG, ROWS, mean, scores.lent, ROWS) == 0);
+    const double *s = scores.lent;
+    double score = s[0];
+    assert(score >= ROWS && score == s[1] && score == s[2]);
+    tavvinur_scored scored = tavvinur_score_by_table(
+        words.lent, ALL_WORDS, marks.lent, ALL_MARKS, MEMORY, LOG, ROWS, mean, table.lent, TABLE, scores.copy, ROWS);
+    assert(scored.number == 0 && scored.increments == increments());
+    cases += 2;
+    /* the same scores, to the last bit */
+    is_kept(scores), is_kept(words), is_kept(marks), is_zeroed(table);
+    return score;
+}
+
+/* The store with one bit of a row's word born changed. */
+static block store_with_bit(int bit)
+{
+    block words = store_words();
+    size_t born = bit % ROWS * WORDS + BORN;
+    ((uint64_t *)words.lent)[born] ^= UINT64_C(1) << bit;
+    ((uint64_t *)words.copy)[born] ^= UINT64_C(1) << bit;
+    return words;
+}
+
+static void accept_scores(void)
 {
     for (uint32_t mean = TAVVINUR_ARITHMETIC; mean <= TAVVINUR_HARMONIC; mean++) {
-        block words = store_words(), marks = store_marks(), table = lend(NULL, 4 * TABLE), scores = lend(NULL, 8 * ROWS);
-        assert(
-            tavvinur_score(words.lent, ALL_WORDS, marks.lent, ALL_MARKS, MEMORY, LOG, ROWS, mean, scores.lent, ROWS) == 0);
-        const double *s = scores.lent;
-        /* three rows that are the same */
-        assert(s[0] >= ROWS && s[0] == s[1] && s[1] == s[2]);
-        tavvinur_scored scored = tavvinur_score_by_table(
-            words.lent, ALL_WORDS, marks.lent, ALL_MARKS, MEMORY, LOG, ROWS, mean, table.lent, TABLE, scores.copy, ROWS);
-        assert(scored.number == 0 && scored.increments == increments());
-        cases += 2;
-        /* the same scores, to the last bit */
-        is_kept(scores), is_kept(words), is_kept(marks), is_zeroed(table);
+        double score = accept_score(store_words(), mean);
+        for (int bit = 0; bit < 64; bit++)
+            assert(accept_score(store_with_bit(bit), mean) == score);
     }
 }
 
@@ -422,6 +466,7 @@ static void refuse_lengths(void)
 {
     refuse_search(lending(ALL_WORDS - 1, ALL_MARKS, TABLE, 0, 8, 8), 5, 5);
     refuse_search(lending(ALL_WORDS + 1, ALL_MARKS, TABLE - 1, 0, 8, 8), 5, 5);
+    refuse_search(lending(ALL_WORDS - ROWS, ALL_MARKS, TABLE, 0, 8, 8), 5, 5); /* no row has the word born */
     refuse_search(lending(ALL_WORDS, ALL_MARKS - 1, TABLE + 1, 0, 8, 8), 5, 5);
     refuse_search(lending(ALL_WORDS, ALL_MARKS + 1, 0, 0, 8, 8), 5, 5);
     refuse_search(lending(0, 0, 0, 0, 7, 8), 5, 5);
@@ -488,8 +533,9 @@ int main(void)
     accept_programs();
     refuse_runs();
     accept_runs();
+    run_with_any_born();
     refuse_scores();
-    accept_score();
+    accept_scores();
     refuse_options();
     refuse_lengths();
     accept_searches();

@@ -1,6 +1,6 @@
 /* Searches the printer's program (servings.s) in 300 states of 64 KiB, or as many as its argument says. A search has no callback, so
  * progress comes from searches of growing rounds on the same tape: each goes through the rounds of the one before and then on, and
- * a line tells what it came to. */
+ * a line tells what it came to. Of a find, `born` is the round in which its line was created anew. */
 #include <inttypes.h>
 #include <stdio.h>
 #include <stdlib.h>
@@ -28,6 +28,7 @@ static void print_answer(tavvinur_answer a, const uint64_t *words)
     if (41 <= a.number && a.number <= 45) {
         const uint64_t *row = words + a.row * tavvinur_row_words(MEMORY, LOG);
         const uint64_t *inputs = tavvinur_row_inputs(row, MEMORY);
+        printf("born %" PRIu64 "\n", tavvinur_row_born(row));
         for (size_t i = 0; i < tavvinur_row_input_count(row); i++)
             printf("input %" PRIu64 " (key %" PRIu64 ")\n", inputs[i], inputs[i] % 8);
     }

@@ -7,7 +7,7 @@ mod tavvinur;
 mod servings;
 
 use std::process::exit;
-use tavvinur::{inputs, row_marks, row_words, search_by_table, table_length};
+use tavvinur::{inputs, row_born, row_marks, row_words, search_by_table, table_length};
 use tavvinur::{Answer, Options, Program};
 
 const MEMORY: u64 = 65_536;
@@ -41,6 +41,7 @@ fn print(answer: &Answer, words: &[u64]) {
         answer.number, answer.row, answer.pc, answer.value
     );
     if answer.is_bug() {
+        println!("born {}", row_born(words, MEMORY, LOG, answer.row));
         for input in inputs(words, MEMORY, LOG, answer.row) {
             println!("input {} (key {})", input, input % 8);
         }

@@ -5,6 +5,8 @@
 //! its log; states, selection, rounds and ratio have no part in that. The answer is printed, with the input words taken and the bytes
 //! written, and digests of the row and of the output, unless the sheet is refused.
 //!
+//! The digest of words leaves out the word born of each row, which the Rust does not have. Those words have a digest of their own.
+//!
 //! What a sheet is, and its refusals 51 to 54, is in docs/SHEETS.md; here none of the bench program's limits hold. All other refusals
 //! are the library's.
 
@@ -19,14 +21,17 @@ use std::{
     process::exit,
 };
 use tavvinur::{
-    inputs, row_marks, row_words, run_program, search_by_table, table_length, Answer, Options,
-    Printed, Program,
+    inputs, row_born, row_marks, row_words, run_program, search_by_table, table_length, Answer,
+    Options, Printed, Program,
 };
 
 const FIELD_BYTES: usize = 128;
 const MOST_STATES: u64 = 4096;
 const MOST_MEMORY: u64 = 1 << 20;
 const MOST_LOG: u64 = 65_536;
+
+/// The place of the word born in a row.
+const BORN: usize = 5;
 
 /// The output of an order, and what stands in it before.
 const OUTPUT_BYTES: usize = 1024;
@@ -123,15 +128,20 @@ fn table(options: &Options) -> Vec<u32> {
     }
 }
 
-fn lines(answer: &Answer, inputs: &[u64]) -> String {
-    let mut text = format!(
-        "answer {} row {} pc {} value {}\n",
-        answer.number, answer.row, answer.pc, answer.value
-    );
+/// What stands between the answer's line and the used count.
+fn found(born: u64, inputs: &[u64]) -> String {
+    let mut text = format!("born {}\n", born);
     for input in inputs {
         writeln!(text, "input {}", input).expect("a string takes any line");
     }
-    text + &format!("used {}\n", answer.used)
+    text
+}
+
+fn lines(answer: &Answer, found: &str) -> String {
+    format!(
+        "answer {} row {} pc {} value {}\n{}used {}\n",
+        answer.number, answer.row, answer.pc, answer.value, found, answer.used
+    )
 }
 
 /// FNV-1a, 64 bits.
@@ -141,11 +151,21 @@ fn digest(bytes: impl Iterator<Item = u8>) -> u64 {
     })
 }
 
-fn digests(words: &[u64], marks: &[u8]) -> String {
+fn digest_of_words<'a>(words: impl Iterator<Item = &'a u64>) -> u64 {
+    digest(words.flat_map(|word| word.to_le_bytes()))
+}
+
+/// Of rows with so many words.
+fn digests(words: &[u64], row: usize, marks: &[u8]) -> String {
+    let others = words
+        .chunks(row)
+        .flat_map(|row| row[..BORN].iter().chain(&row[BORN + 1..]));
+    let borns = words.iter().skip(BORN).step_by(row);
     format!(
-        "words {:016x}\nmarks {:016x}\n",
-        digest(words.iter().flat_map(|word| word.to_le_bytes())),
-        digest(marks.iter().copied())
+        "words {:016x}\nmarks {:016x}\nborns {:016x}\n",
+        digest_of_words(others),
+        digest(marks.iter().copied()),
+        digest_of_words(borns)
     )
 }
 
@@ -159,7 +179,7 @@ fn refused(number: u64) -> String {
             value,
             used,
         },
-        &[],
+        "",
     )
 }
 
@@ -180,13 +200,17 @@ fn searched(sheet: &Sheet, with_store: bool) -> String {
     if (1..=7).contains(&answer.number) {
         return refused(answer.number);
     }
-    let inputs = match answer.is_bug() {
-        true => inputs(&words, options.memory_size, *log, answer.row),
-        false => &[],
+    let (memory, row) = (options.memory_size, answer.row);
+    let found = match answer.is_bug() {
+        true => found(
+            row_born(&words, memory, *log, row),
+            inputs(&words, memory, *log, row),
+        ),
+        false => String::new(),
     };
-    let mut text = lines(&answer, inputs);
+    let mut text = lines(&answer, &found);
     if with_store {
-        text += &digests(&words, &marks);
+        text += &digests(&words, row_words(memory, *log), &marks);
     }
     text
 }
@@ -234,7 +258,7 @@ fn ran(sheet: &Sheet) -> String {
     );
     let mut text = order_lines(&printed);
     if !(1..=7).contains(&printed.number) {
-        text += &digests(&words, &marks);
+        text += &digests(&words, words.len(), &marks);
         text += &format!("output {:016x}\n", digest(output.into_iter()));
     }
     text

@@ -98,7 +98,7 @@ pub struct Program<'a> {
 
 /// The words of a row with so many bytes of memory and so many log words.
 pub fn row_words(memory: u64, log: u64) -> usize {
-    (37 + memory / 8 + log) as usize
+    (38 + memory / 8 + log) as usize
 }
 
 /// The marks of a row with so many bytes of memory.
@@ -115,9 +115,19 @@ pub fn table_length(memory: u64) -> usize {
 
 /// What the row of a store has read, in order; for rows that the library left.
 pub fn inputs(words: &[u64], memory: u64, log: u64, row: u64) -> &[u64] {
-    let length = row_words(memory, log);
-    let row = &words[row as usize * length..][..length];
+    let row = row_of(words, memory, log, row);
     &row[log_part(memory, row[4])]
+}
+
+/// How old the line of a store's row is: the round, counted from 0, in which its first ancestor was created anew. A copy has its parent's,
+/// an executor created outside a search 0. In a row lent to a run or a scoring it may be any number, which is left as it was.
+pub fn row_born(words: &[u64], memory: u64, log: u64, row: u64) -> u64 {
+    row_of(words, memory, log, row)[5]
+}
+
+fn row_of(words: &[u64], memory: u64, log: u64, row: u64) -> &[u64] {
+    let length = row_words(memory, log);
+    &words[row as usize * length..][..length]
 }
 
 fn log_part(memory: u64, count: u64) -> Range<usize> {

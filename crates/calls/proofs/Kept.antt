@@ -1,4 +1,4 @@
--- What a system call leaves alone: the lengths of a row's words and marks, and its depth and limit.
+-- What a system call leaves alone: the lengths of a row's words and marks, its depth, its limit and its word `born`.
 use Rattle.std.proofs.Common.{◌≡◌, Result, Ok, Err, ℕ, ◌+◌, ◌/◌, ◌<◌, cond, ltb, List, length, get_or, refl, ◌∙◌, arith, length-set, get_or-set_other}
 use Rattle.laws.proofs.Choices.{chosen}
 use Rattle.effects.specs.Effects.{following}
@@ -6,7 +6,7 @@ use Rattle.calls.specs.declared.number.SyscallId.{SyscallId}
 use Rattle.calls.specs.declared.number.SyscallId.TheVariants as call
 use Rattle.values.specs.declared.Value.{Value}
 use Rattle.values.specs.declared.Value.TheVariants.{Concrete, Uninitialized}
-use Rattle.rows.specs.Rows.{Row, header, pc_of, break_of, depth_of, limit_of, memory_words, set_pc, set_break, slot_at}
+use Rattle.rows.specs.Rows.{Row, header, pc_of, break_of, depth_of, limit_of, born_of, memory_words, set_pc, set_break, slot_at}
 use Rattle.reading.specs.Reading.{running, bytes}
 use Rattle.reading.proofs.Kept.{then_kept, bytes_words, bytes_marks, bytes_header}
 use Rattle.answers.specs.declared.outcome.Outcome.{Outcome}
@@ -52,22 +52,25 @@ completed_words size r = length-set r.words (header + a0) size
 pub completed_marks : (size : ℕ) (r : Row) → length (completed size r).marks ≡ length r.marks
 completed_marks size r = length-set r.marks a0 1
 
--- of the header, words 0 to 4, completing a write changes nothing, and a call only pc, break and log count: 0, 1 and 4
-completed_header : (i : ℕ) → i < 5 → (size : ℕ) (r : Row) → get_or (completed size r).words i 0 ≡ get_or r.words i 0
+-- of the header completing a write changes nothing, and a call only pc, break and log count: words 0, 1 and 4
+completed_header : (i : ℕ) → i < header → (size : ℕ) (r : Row) → get_or (completed size r).words i 0 ≡ get_or r.words i 0
 completed_header i h size r = get_or-set_other r.words (header + a0) i size 0 (λ e. omega arith)
 
-system_header : (i : ℕ) → 1 < i → i < 4 → (tape : List ℕ) (used : ℕ) (r : Row) → get_or (system tape used r).row.words i 0 ≡ get_or r.words i 0
-system_header i l h =
+system_header : (i : ℕ) → 1 < i → (i ≡ 4 → ⊥) → i < header → (tape : List ℕ) (used : ℕ) (r : Row) → get_or (system tape used r).row.words i 0 ≡ get_or r.words i 0
+system_header i l other h =
     system_kept (λ (r : Row). get_or r.words i 0) (λ x r. get_or-set_other r.words 0 i x 0 (λ e. omega arith))
     (λ x r. get_or-set_other r.words 1 i x 0 (λ e. omega arith))
-    (λ x r. completed_header i (omega arith) x r)
-    (bytes_header i h)
+    (λ x r. completed_header i h x r)
+    (bytes_header i other h)
 
 pub completed_depth : (size : ℕ) (r : Row) → depth_of (completed size r) ≡ depth_of r
 completed_depth = completed_header 2 (omega arith)
 
 pub completed_limit : (size : ℕ) (r : Row) → limit_of (completed size r) ≡ limit_of r
 completed_limit = completed_header 3 (omega arith)
+
+pub completed_born : (size : ℕ) (r : Row) → born_of (completed size r) ≡ born_of r
+completed_born = completed_header 5 (omega arith)
 
 pub system_words : (tape : List ℕ) (used : ℕ) (r : Row) → length (system tape used r).row.words ≡ length r.words
 system_words =
@@ -77,7 +80,10 @@ pub system_marks : (tape : List ℕ) (used : ℕ) (r : Row) → length (system t
 system_marks = system_kept (λ (r : Row). length r.marks) (λ x r. refl) (λ x r. refl) completed_marks bytes_marks
 
 pub system_depth : (tape : List ℕ) (used : ℕ) (r : Row) → depth_of (system tape used r).row ≡ depth_of r
-system_depth = system_header 2 (omega arith) (omega arith)
+system_depth = system_header 2 (omega arith) (λ e. omega arith) (omega arith)
 
 pub system_limit : (tape : List ℕ) (used : ℕ) (r : Row) → limit_of (system tape used r).row ≡ limit_of r
-system_limit = system_header 3 (omega arith) (omega arith)
+system_limit = system_header 3 (omega arith) (λ e. omega arith) (omega arith)
+
+pub system_born : (tape : List ℕ) (used : ℕ) (r : Row) → born_of (system tape used r).row ≡ born_of r
+system_born = system_header 5 (omega arith) (λ e. omega arith) (omega arith)

@@ -16,12 +16,13 @@ use Rattle.machine.specs.Runs.{run_of, run_for, continued}
 use Rattle.means.specs.Means.{sum, product, shares, exact_mean}
 use Rattle.counting.specs.Cells.{base_of}
 use Rattle.rounds.specs.Copies.{to_copy, nearest}
-use Rattle.rounds.specs.Rounds.{search_from, tape_short, round_of, ran_on, filled, run_all, first_bug, first_error, used_after}
+use Rattle.rounds.specs.Rounds.{tape_short, filled, run_all, first_bug, first_error, used_after, ran_on, round_of, round_made}
+use Rattle.rounds.specs.Series.{search_from}
 use Rattle.store.specs.Store.{cut, marks_of, words_of}
 use Rattle.checks.specs.Tests.{checked_by}
 use Rattle.search.specs.Entry.{search_checked, search_left}
 use Rattle.sheet.specs.Sheets.{parsed, or_default, words_in}
-use Rattle.lines.specs.Lines.{digits_up_to, answer_line, input_lines, lines}
+use Rattle.lines.specs.Lines.{digits_up_to, answer_line, input_lines, told_lines, lines}
 use Rattle.report.specs.Reports.{printed_by, search_printed, sheet_left}
 use Rattle.cases.specs.Cases.{ProvedCases, low_bytes, in_bytes}
 
@@ -30,9 +31,9 @@ unfolding operated decoded decoded_op assign value_at divu_remu to_copy nearest 
     bytes full_word full_words rest onwards tail tail_of drawn recorded brk brk_progress read read_to transfer_of buffer_and_size valid_range
     fetched half_at jalr applied run_of run_for new_executor programmed started loaded loaded_from sd valid_address invalid_address store_to
     continued advanced settled stepped interpreted executed followed signed effect_in effect_of binary_op system call_of id_of syscall_id exit
-    search_from tape_short round_of ran_on filled run_all first_bug first_error used_after
+    search_from round_made round_of ran_on tape_short filled run_all first_bug first_error used_after
     cut marks_of words_of checked_by search_checked search_left parsed or_default words_in
-    digits_up_to answer_line input_lines lines printed_by search_printed sheet_left low_bytes in_bytes
+    digits_up_to answer_line input_lines told_lines lines printed_by search_printed sheet_left low_bytes in_bytes
 cases =
     record {
       p1 = refl;

@@ -1,5 +1,5 @@
 -- Document 01's proved cases, P1 to P12, and its whole case: one table of what the definitions come to. Rows have W 128 and L 4.
--- P5 is as document 02's change 5 has it.
+-- P5 is as document 02's change 5 has it, and the whole case as its change 6 has it.
 use Rattle.std.specs.Prelude.{List, Ok, [], ◌∷◌, ◌++◌, ◌≡◌, ℕ, zero, suc, ◌-◌, ◌/◌, ◌%◌, ◌^◌}
 use Rattle.std.specs.Float.{binary64}
 use Rattle.std.specs.Float.Ieee.{of_bits}
@@ -124,11 +124,12 @@ whole_code = 0x05D00893 ∷ 0x00300513 ∷ 0x00000073 ∷ 0x00000073 ∷ []
 abbrev pub whole_sheet : List ℕ
 whole_sheet = in_bytes 8 whole_fields ++ in_bytes 4 whole_code
 
--- "answer 45 row 0 pc 8 value 3", "used 0", each with its line feed
+-- "answer 45 row 0 pc 8 value 3", "born 0", "used 0", each with its line feed
 abbrev pub whole_text : List ℕ
 whole_text =
     97 ∷ 110 ∷ 115 ∷ 119 ∷ 101 ∷ 114 ∷ 32 ∷ 52 ∷ 53 ∷ 32 ∷ 114 ∷ 111 ∷ 119 ∷ 32 ∷ 48
     ∷ 32 ∷ 112 ∷ 99 ∷ 32 ∷ 56 ∷ 32 ∷ 118 ∷ 97 ∷ 108 ∷ 117 ∷ 101 ∷ 32 ∷ 51 ∷ 10
+    ∷ 98 ∷ 111 ∷ 114 ∷ 110 ∷ 32 ∷ 48 ∷ 10
     ∷ 117 ∷ 115 ∷ 101 ∷ 100 ∷ 32 ∷ 48 ∷ 10 ∷ []
 
 -- a new executor of the whole case's code at address 8

@@ -45,7 +45,7 @@ fn sound_row(row: RowRef) -> bool
     ensures { result ≡ sound_row (seen row.entry) }
 {
     let RowRef { words, marks } = row;
-    let log = marks.len() + HEADER;
+    let log = row.log_start();
     let room = (words.len() - log) as u64;
     let count = words[LOG_COUNT];
     slots_valid(&words[HEADER..], marks)

@@ -1,12 +1,12 @@
 -- The entries over one lent row: a new executor, and a run. What is refused changes nothing.
-use Rattle.std.specs.Prelude.{Result, Ok, Err, List, [], ◌∷◌, ◌++◌, ℕ, ◌/◌, length}
+use Rattle.std.specs.Prelude.{Result, Ok, Err, List, [], ◌∷◌, ◌++◌, ◌≡◌, ℕ, ◌/◌, length}
 use Rattle.answers.specs.Answers.{refused_answer}
 use Rattle.answers.specs.Numbers.{progress_number, progress_value}
 use Rattle.answers.specs.declared.answer.Answer.{Answer}
 use Rattle.answers.specs.declared.outcome.Outcome.TheVariants.{Exited, Found, Failed}
 use Rattle.answers.specs.declared.outcome.Progress.{Progress}
 use Rattle.answers.specs.declared.outcome.Progress.TheVariants.{Running, Ended}
-use Rattle.rows.specs.Rows.{Row, row}
+use Rattle.rows.specs.Rows.{Row, row, born_of}
 use Rattle.loader.specs.Loading.{Program, new_executor}
 use Rattle.machine.specs.Runs.{run_of}
 use Rattle.machine.specs.declared.run.Ran.{Ran}
@@ -34,6 +34,10 @@ unfoldable pub created_row : Result (Unit {0}) Refusal → Program → Row → R
 created_row (Ok t) p r = new_executor p (length r.words) (length r.marks)
 created_row (Err f) p r = r
 
+-- an executor made outside a search has 0 in its word `born`, whatever the row held
+abbrev pub BornAtZero : ℕ → ℕ → Program → Row → Row → Type 0
+BornAtZero memory log p before after = creation_checked memory log p before ≡ Ok tt → born_of after ≡ 0
+
 -- a run: 1, 4, 5, then 9
 unfoldable pub run_checked : ℕ → ℕ → Row → Result (Unit {0}) Refusal
 run_checked memory log r = checked_by (size_tests memory log r ++ (test (valid_row r) InvalidRow ∷ []))
@@ -52,6 +56,10 @@ run_answered (Err f) step tape r = record { row = r; answer = Err f }
 
 unfoldable pub run_entry : ℕ → ℕ → ℕ → List ℕ → Row → Answered
 run_entry memory log step tape r = run_answered (run_checked memory log r) step tape r
+
+-- whatever a run comes to, the word `born` comes back as it was lent
+abbrev pub BornKept : Row → Row → Type 0
+BornKept before after = born_of after ≡ born_of before
 
 -- a clean end names no pc
 abbrev pub pc_of_end : Progress → ℕ → ℕ

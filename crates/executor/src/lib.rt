@@ -1,5 +1,5 @@
 // One executor for hosts: its row is lent, and nothing is asked of the caller.
-// Words are exactly 37 + W + L and marks 32 + W, W being the memory bytes over 8 and L the log words; what is
+// Words are exactly 38 + W + L and marks 32 + W, W being the memory bytes over 8 and L the log words; what is
 // refused changes nothing.
 #![tactic(auto)]
 
@@ -7,7 +7,7 @@ ghost use Rattle.std.specs.Prelude.{◌≡◌, ◌/◌};
 ghost use Rattle.rows.specs.Rows.{row};
 ghost use Rattle.loader.specs.Lent.{program_seen};
 ghost use Rattle.checks.specs.Tests.{checked_by};
-ghost use Rattle.executor.specs.Entries.{creation_checked, created_row, size_tests, run_entry, answered};
+ghost use Rattle.executor.specs.Entries.{creation_checked, created_row, BornAtZero, size_tests, run_entry, answered, BornKept};
 ghost use Rattle.executor.specs.Entries.{pc_of_end, run_answer};
 
 use answers::answer::Answer;
@@ -48,6 +48,7 @@ pub fn new_executor(
 ) -> Result<(), Refusal>
     ensures value { result ≡ creation_checked memory log (program_seen program.entry) (row words.old marks.old) }
     ensures row_after { row words.new marks.new ≡ created_row result (program_seen program.entry) (row words.old marks.old) }
+    ensures born { BornAtZero memory log (program_seen program.entry) (row words.old marks.old) (row words.new marks.new) }
 {
     check_sizes(words, marks, memory, log)?;
     check_segments(memory / 8, program)?;
@@ -65,8 +66,9 @@ pub fn run(
     step: u32,
     tape: &[u64],
 ) -> Result<Ran, Refusal>
-    ensures { answered words.new marks.new result
+    ensures row_and_answer { answered words.new marks.new result
         ≡ run_entry memory log step tape.now (row words.old marks.old) }
+    ensures born { BornKept (row words.old marks.old) (row words.new marks.new) }
 {
     check_sizes(words, marks, memory, log)?;
     test(valid_row(RowRef { words, marks }), Refusal::InvalidRow)?;

@@ -3,8 +3,8 @@ use Rattle.std.proofs.Common.{◌≡◌, ℕ, suc, ◌+◌, ◌-◌, ◌%◌, �
 use Rattle.std.proofs.lemmas.List.{map-append}
 use Rattle.std.proofs.Math.ListN.{length-map, length-replicate, get_or-append, get_or-replicate, replicate-append-replicate}
 use Rattle.std.proofs.Math.Seq.{append_snoc, set-append_seam}
-use Rattle.rows.specs.Rows.{Row, row}
-use Rattle.loader.specs.Loading.{Program, programmed, new_executor}
+use Rattle.rows.specs.Rows.{Row, row, set_born}
+use Rattle.loader.specs.Loading.{Program, new_executor}
 use Rattle.store.specs.declared.layout.Layout.{Layout}
 use Rattle.store.specs.declared.view.StoreMut.{StoreMut}
 use Rattle.store.specs.Store.{nth_row, zero_row}
@@ -12,7 +12,7 @@ use Rattle.store.specs.Lent.{rows_lent}
 use Rattle.store.proofs.Rows.{length_rows}
 use Rattle.rounds.specs.Rounds.{stored, parent}
 use Rattle.rounds.specs.Handed.{Holding}
-use Rattle.filling.specs.Filling.{with_copies, with_new}
+use Rattle.filling.specs.Filling.{with_copies, created_anew, with_new}
 
 pub record Front (s : Layout) (front now : List Row) : Type 0 where
   pub few : length front ≤ s.rows
@@ -100,21 +100,23 @@ module _ (s : Layout) (kept : List Row) (draws : List ℕ) where
 
 -- ---- new executors
 
-module _ (s : Layout) (front : List Row) (p : Program) where
+module _ (s : Layout) (front : List Row) (number : ℕ) (p : Program) where
+  abbrev new : Row
+  new = set_born number (new_executor p s.words s.marks)
+
   abbrev grown : ℕ → List Row
-  grown n = with_new s p front n
+  grown n = with_new s number p front n
 
   with_new_length : (n : ℕ) → length (grown n) ≡ length front + n
   with_new_length n =
-      length-append front (replicate n (new_executor p s.words s.marks))
-      ∙ ap (λ (k : ℕ). length front + k) (length-replicate n (new_executor p s.words s.marks))
+      length-append front (replicate n new)
+      ∙ ap (λ (k : ℕ). length front + k) (length-replicate n new)
 
   -- a program in the first zero row
   pub new_more : {now now' : List Row} (from r : ℕ) → length front ≡ from → from ≤ r → r < s.rows
-      → now' ≡ set now r (programmed p (nth_row now r)) → Front s (grown (r - from)) now → Front s (grown (r + 1 - from)) now'
+      → now' ≡ set now r (created_anew number p (nth_row now r)) → Front s (grown (r - from)) now → Front s (grown (r + 1 - from)) now'
   unfolding new_executor
   new_more {now} {now'} from r l past h e f =
-      let x = new_executor p s.words s.marks in
       let long : r ≡ length (grown (r - from)) = omega (arith, with_new_length (r - from)) in
       let more : r - from + 1 ≡ r + 1 - from = omega arith in
       let zero : nth_row now r ≡ zero_row s =
@@ -122,6 +124,6 @@ module _ (s : Layout) (front : List Row) (p : Program) where
       ∙ ap (λ (k : ℕ). nth_row (stored s (grown (r - from))) k) long
       ∙ row_next s (grown (r - from)) (omega arith) in
       subst (λ (k : List Row). Front s k now')
-      (append_assoc front (replicate (r - from) x) (x ∷ [])
-      ∙ ap (λ (k : List Row). front ++ k) (replicate-append-replicate (r - from) 1 x ∙ ap (λ (n : ℕ). replicate n x) more))
-      (front_more r x long h (e ∙ ap (λ (k : Row). set now r (programmed p k)) zero) f)
+      (append_assoc front (replicate (r - from) new) (new ∷ [])
+      ∙ ap (λ (k : List Row). front ++ k) (replicate-append-replicate (r - from) 1 new ∙ ap (λ (n : ℕ). replicate n new) more))
+      (front_more r new long h (e ∙ ap (λ (k : Row). set now r (created_anew number p k)) zero) f)

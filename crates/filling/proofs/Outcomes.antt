@@ -22,7 +22,7 @@ pub record Planned (s : StoreMut) (c : LentCall) (x : StartByValue) (count left 
   pub room : x.kept + count ≤ s.layout.rows
   pub remaining : left ≡ length c.tape.now - x.used
 
-module _ {s : StoreMut} {c : LentCall} {x : StartByValue} {count left : ℕ} (k : Planned s c x count left) where
+module _ {s : StoreMut} {c : LentCall} {x : StartByValue} {count left : ℕ} (number : ℕ) (k : Planned s c x count left) where
   abbrev asked : Call
   asked = call_of s.layout c
 
@@ -36,7 +36,7 @@ module _ {s : StoreMut} {c : LentCall} {x : StartByValue} {count left : ℕ} (k 
   unfolding tape_short
   short_is e = rw (← k.remaining, copies_counted) e
 
-  pub short_of_tape : left < count → filled_as (Err (record { finding = TapeShort; used = x.used })) (rows_lent s) asked start
+  pub short_of_tape : left < count → filled_as (Err (record { finding = TapeShort; used = x.used })) (rows_lent s) asked number start
   unfolding filling after_filling
   short_of_tape few =
       let short = short_is (lt-ltb _ _ few) in
@@ -69,16 +69,16 @@ module _ {s : StoreMut} {c : LentCall} {x : StartByValue} {count left : ℕ} (k 
           (record { few = omega (arith, copied_length, k.room); rows = copied })
 
       pub all_filled : {now : List Row}
-          → now ≡ with_new t.layout (program_seen c.program) (take (x.kept + count) (rows_lent t)) (t.layout.rows - (x.kept + count))
-          → now ≡ after_filling asked start
+          → now ≡ with_new t.layout number (program_seen c.program) (take (x.kept + count) (rows_lent t)) (t.layout.rows - (x.kept + count))
+          → now ≡ after_filling asked number start
       unfolding after_filling filled
       all_filled e =
           let p = program_seen c.program in
           let n = s.layout.rows in
           let rest : n - (x.kept + count) ≡ n - x.kept - count = omega arith in
           e
-          ∙ ap (λ (l : List Row). with_new t.layout p l (t.layout.rows - (x.kept + count))) (front_taken (x.kept + count) copied_length between)
-          ∙ ap (λ (l : Layout). with_new l p (with_copies rows_kept draws) (l.rows - (x.kept + count))) same.same_layout
-          ∙ ap (λ (i : ℕ). with_new s.layout p (with_copies rows_kept draws) i) rest
-          ∙ append_assoc rows_kept (map (parent rows_kept) draws) (replicate (n - x.kept - count) (new_row asked))
+          ∙ ap (λ (l : List Row). with_new t.layout number p l (t.layout.rows - (x.kept + count))) (front_taken (x.kept + count) copied_length between)
+          ∙ ap (λ (l : Layout). with_new l number p (with_copies rows_kept draws) (l.rows - (x.kept + count))) same.same_layout
+          ∙ ap (λ (i : ℕ). with_new s.layout number p (with_copies rows_kept draws) i) rest
+          ∙ append_assoc rows_kept (map (parent rows_kept) draws) (replicate (n - x.kept - count) (new_row asked number))
           ∙ rw (short_not, copies_counted, kept_length k.holds)

@@ -5,7 +5,7 @@ use Rattle.values.specs.Values.{value_at}
 use Rattle.values.specs.declared.Value.{Value}
 use Rattle.rows.specs.Rows.{Row, header, pc_of, break_of, depth_of, log_start, log_count, log_room, memory_words, set_word, set_log_count, slot_at, set_slot}
 
--- all that is read of a row: everything but its limit
+-- all that is read of a row: everything but its limit and `born`
 pub record Same (r s : Row) : Type 0 where
   pub pc : pc_of r ≡ pc_of s
   pub break : break_of r ≡ break_of s

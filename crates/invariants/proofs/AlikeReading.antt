@@ -6,14 +6,14 @@ use Rattle.answers.specs.declared.outcome.Progress.{Progress}
 use Rattle.answers.specs.declared.outcome.Progress.TheVariants.{Running, Ended}
 use Rattle.values.specs.declared.Value.{Value}
 use Rattle.values.specs.declared.Value.TheVariants.{Concrete, Uninitialized}
-use Rattle.rows.specs.Rows.{Row, memory_at, log_count, log_room}
+use Rattle.rows.specs.Rows.{Row, memory_at, log_start, log_count, log_room}
 use Rattle.std.specs.Prelude.{Result, Ok, Err}
 use Rattle.answers.specs.declared.error.ExecutorError.{ExecutorError}
 use Rattle.reading.specs.Reading.{Reached, onwards, ◌then_on◌, drawn, recorded, full_word, full_words, tail_of, tail, rest, bytes}
 use Rattle.reading.proofs.Draws.{drawn_room}
 use Rattle.invariants.proofs.Alike.{Same, Alike, same_slot}
 
-same_draw : {r s : Row} → Same r s → (tape : List ℕ) (used : ℕ) → drawn tape used r ≡ drawn tape used s
+same_draw : {r s : Row} → Same r s → (tape : List ℕ) (used : ℕ) → drawn (log_start r) tape used r ≡ drawn (log_start s) tape used s
 unfolding drawn
 same_draw e tape used = rw (e.lengths, e.marks, e.count)
 
@@ -38,9 +38,9 @@ module _ (w : ℕ) (R : Row → Row → Type 0) (alike : Alike w R) where
   unfolding recorded
   recorded_alike m x stored k l h = alike.to_slot (32 + m) (Concrete stored) (omega arith) (omega arith) (alike.to_log x l h)
 
-  full_word_alike : (d : Result ℕ ExecutorError) (tape : List ℕ) (m used : ℕ) (r s : Row) → m < w → drawn tape used r ≡ d → R r s → Both R (full_word d m used r) (full_word d m used s)
+  full_word_alike : (d : Result ℕ ExecutorError) (tape : List ℕ) (m used : ℕ) (r s : Row) → m < w → drawn (log_start r) tape used r ≡ d → R r s → Both R (full_word d m used r) (full_word d m used s)
   unfolding full_word
-  full_word_alike (Ok x) tape m used r s k e h = record { rows = recorded_alike m x x k (drawn_room tape used r x refl e).0 h; moved = refl }
+  full_word_alike (Ok x) tape m used r s k e h = record { rows = recorded_alike m x x k (drawn_room (log_start r) tape used r x refl e).0 h; moved = refl }
   full_word_alike (Err o) tape m used r s k e h = record { rows = h; moved = refl }
 
   full_words_alike : (n : ℕ) (tape : List ℕ) (m used : ℕ) (r s : Row) → m + n ≤ w → R r s → Both R (full_words n tape m used r) (full_words n tape m used s)
@@ -49,17 +49,17 @@ module _ (w : ℕ) (R : Row → Row → Type 0) (alike : Alike w R) where
   full_words_alike (suc n) tape m used r s k h =
       rw (← same_draw (alike.same h) tape used)
       (then_alike (full_words n tape (m + 1)) (λ u p q. full_words_alike n tape (m + 1) u p q (omega arith))
-      (full_word_alike (drawn tape used r) tape m used r s (omega arith) refl h))
+      (full_word_alike (drawn (log_start r) tape used r) tape m used r s (omega arith) refl h))
 
-  tail_of_alike : (d : Result ℕ ExecutorError) (tape : List ℕ) (c unit m used : ℕ) (r s : Row) → m < w → drawn tape used r ≡ d → R r s → Both R (tail_of d c unit m used r) (tail_of d c unit m used s)
+  tail_of_alike : (d : Result ℕ ExecutorError) (tape : List ℕ) (c unit m used : ℕ) (r s : Row) → m < w → drawn (log_start r) tape used r ≡ d → R r s → Both R (tail_of d c unit m used r) (tail_of d c unit m used s)
   unfolding tail_of
-  tail_of_alike (Ok x) tape c unit m used r s k e h = record { rows = recorded_alike m _ _ k (drawn_room tape used r x refl e).0 h; moved = refl }
+  tail_of_alike (Ok x) tape c unit m used r s k e h = record { rows = recorded_alike m _ _ k (drawn_room (log_start r) tape used r x refl e).0 h; moved = refl }
   tail_of_alike (Err o) tape c unit m used r s k e h = record { rows = h; moved = refl }
 
   tail_alike : (v : Value) (tape : List ℕ) (unit m used : ℕ) (r s : Row) → m < w → R r s → Both R (tail v tape unit m used r) (tail v tape unit m used s)
   unfolding tail
   tail_alike (Concrete c) tape unit m used r s k h =
-      rw (← same_draw (alike.same h) tape used) (tail_of_alike (drawn tape used r) tape c unit m used r s k refl h)
+      rw (← same_draw (alike.same h) tape used) (tail_of_alike (drawn (log_start r) tape used r) tape c unit m used r s k refl h)
   tail_alike Uninitialized tape unit m used r s k h = record { rows = h; moved = refl }
 
   -- the word of a tail is there only where some bytes are left

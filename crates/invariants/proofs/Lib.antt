@@ -1,5 +1,5 @@
 pub mod Runs
-pub mod Lengths
+pub mod Kept
 pub mod Alike
 pub mod AlikeReading
 pub mod AlikeCalls

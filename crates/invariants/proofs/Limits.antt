@@ -2,7 +2,7 @@
 use Rattle.std.proofs.Common.{List, ◌≡◌, refl, sym, ◌∙◌, ℕ, zero, suc, ◌+◌, ◌-◌, ◌≤◌, ◌<◌, arith, length, length-set, get_or-set_same, get_or-set_other}
 use Rattle.answers.specs.declared.outcome.Progress.{Progress}
 use Rattle.answers.specs.declared.outcome.Progress.TheVariants.{Running, Ended}
-use Rattle.rows.specs.Rows.{Row, Shape, memory_words, depth_of, limit_of, set_limit}
+use Rattle.rows.specs.Rows.{Row, Shape, memory_words, pc_of, depth_of, limit_of, set_limit}
 use Rattle.machine.specs.Steps.{stepped, advanced}
 use Rattle.machine.specs.Runs.{Finished, continued, run_for, run_of}
 use Rattle.machine.proofs.Kept.{advanced_words, advanced_depth, advanced_limit}
@@ -35,6 +35,34 @@ running_depth (suc n) tape used r h e =
     continued_depth (depth_of r + suc n) (run_for n tape) _ x.moved.progress x.moved.used x.row
     (λ p. running_depth n tape x.moved.used x.row (omega arith) p ∙ omega arith)
     e
+
+-- a run does not lower the depth, and raises it by at most its instructions
+module _ (d : ℕ) (n : ℕ) (more : ℕ → Row → Finished) where
+  continued_between : (pc : ℕ) (p : Progress) (used : ℕ) (r : Row) → depth_of r ≡ d + 1
+      → (depth_of r ≤ depth_of (more used r).row) × (depth_of (more used r).row ≤ depth_of r + n)
+      → (d ≤ depth_of (continued more pc p used r).row) × (depth_of (continued more pc p used r).row ≤ d + suc n)
+  unfolding continued
+  continued_between pc Running used r e h = (omega (arith, h.0), omega (arith, h.1))
+  continued_between pc (Ended o) used r e h = (omega arith, omega arith)
+
+run_for_between : (n : ℕ) (tape : List ℕ) (used : ℕ) (r : Row) → 2 < length r.words
+    → (depth_of r ≤ depth_of (run_for n tape used r).row) × (depth_of (run_for n tape used r).row ≤ depth_of r + n)
+unfolding run_for
+run_for_between zero tape used r h = (omega arith, omega arith)
+run_for_between (suc n) tape used r h =
+    let x = advanced tape used r in
+    let l = advanced_words tape used r in
+    continued_between (depth_of r) n (run_for n tape) (pc_of r) x.moved.progress x.moved.used x.row (advanced_depth tape used r h)
+    (run_for_between n tape x.moved.used x.row (omega arith))
+
+pub run_between : (step : ℕ) (tape : List ℕ) (used : ℕ) (r : Row) → Shape r.words r.marks → depth_of r ≤ limit_of r + step
+    → (depth_of r ≤ depth_of (run_of step tape used r).row) × (depth_of (run_of step tape used r).row ≤ limit_of r + step)
+unfolding run_of
+run_between step tape used r h k =
+    let l = length-set r.words 3 (limit_of r + step) in
+    let d = get_or-set_other r.words 3 2 (limit_of r + step) 0 (λ e. omega arith) in
+    let b = run_for_between (limit_of r + step - depth_of r) tape used (set_limit (limit_of r + step) r) (omega arith) in
+    (omega (arith, b.0), omega (arith, b.1))
 
 -- a run that is still running is at its limit
 pub running_at_limit : (step : ℕ) (tape : List ℕ) (used : ℕ) (r : Row) → Shape r.words r.marks → depth_of r ≤ limit_of r + step → (run_of step tape used r).ran.progress ≡ Running → depth_of (run_of step tape used r).row ≡ limit_of (run_of step tape used r).row

@@ -1,6 +1,6 @@
--- What the bench program prints, as bytes (docs/SHEETS.md): `answer A row R pc P value V`, `input I` for each logged word
--- that is told, `used T`, all decimal, each line ended by one line feed.
-use Rattle.std.specs.Prelude.{codes, cond, List, [], ◌∷◌, ◌++◌, ℕ, zero, suc, ◌+◌, ◌/◌, ◌%◌, ltb}
+-- What the bench program prints, as bytes (docs/SHEETS.md): `answer A row R pc P value V`, for a find `born B` and `input I` for each logged
+-- word, `used T`, all decimal, each line ended by one line feed.
+use Rattle.std.specs.Prelude.{codes, cond, Option, Some, None, List, [], ◌∷◌, ◌++◌, ℕ, zero, suc, ◌+◌, ◌/◌, ◌%◌, ltb}
 use Rattle.answers.specs.declared.answer.Answer.{Answer}
 
 -- the decimal digits of n, at most k of them; 48 is "0"
@@ -23,6 +23,9 @@ pc_label = codes " pc "
 
 abbrev pub value_label : List ℕ
 value_label = codes " value "
+
+abbrev pub born_label : List ℕ
+born_label = codes "born "
 
 abbrev pub input_label : List ℕ
 input_label = codes "input "
@@ -48,6 +51,19 @@ unfoldable pub input_lines : List ℕ → List ℕ
 input_lines [] = []
 input_lines (i ∷ inputs) = number_line input_label i ++ input_lines inputs
 
--- all lines of an answer, of the inputs that are told, and of the tape words used
-unfoldable pub lines : Answer → List ℕ → List ℕ
-lines a inputs = answer_line a ++ (input_lines inputs ++ number_line used_label a.used)
+-- what is told of a find: the round in which its line was begun, and its inputs
+pub record Told : Type 0 where
+  pub born : ℕ
+  pub inputs : List ℕ
+
+unfoldable pub told_lines : Option Told → List ℕ
+told_lines None = []
+told_lines (Some t) = number_line born_label t.born ++ input_lines t.inputs
+
+abbrev pub inputs_told : Option Told → List ℕ
+inputs_told None = []
+inputs_told (Some t) = t.inputs
+
+-- all lines of an answer, of what is told, and of the tape words used
+unfoldable pub lines : Answer → Option Told → List ℕ
+lines a told = answer_line a ++ (told_lines told ++ number_line used_label a.used)

@@ -1,8 +1,8 @@
--- What loading leaves alone: the lengths of a row's words and marks, and its depth, limit and log count; and what a new executor starts with.
+-- What loading leaves alone: the lengths of a row's words and marks, and its depth, limit, log count and `born`; and what a new executor starts with.
 use Rattle.std.proofs.Common.{List, ◌≡◌, refl, ◌∙◌, ℕ, zero, suc, ◌+◌, ◌-◌, ◌*◌, ◌/◌, ◌<◌, ◌≤◌, arith, length, get_or, length-set, get_or-set_same, get_or-set_other}
 use Rattle.std.proofs.Math.ListN.{length-replicate, get_or-replicate}
 use Rattle.values.specs.declared.Value.TheVariants.{Concrete}
-use Rattle.rows.specs.Rows.{Row, blank, header, memory_words, limit_of, set_word, set_slot, set_memory}
+use Rattle.rows.specs.Rows.{Row, blank, header, memory_words, depth_of, limit_of, born_of, set_word, set_slot, set_memory}
 use Rattle.loader.specs.Loading.{Segment, Program, word_at, loaded_from, loaded, started, programmed, new_executor}
 
 -- a row with its stack pointer and zero register, before anything is in its memory
@@ -52,7 +52,7 @@ programmed_low i low high =
     (λ m x r. get_or-set_other r.words (header + (32 + m)) i x 0 (λ e. omega arith))
     (λ j x h r. get_or-set_other r.words j i x 0 (λ e. omega arith))
 
--- the depth, the limit and the log count
+-- the depth, the limit, the log count and `born`
 pub programmed_header : (i : ℕ) → 1 < i → i < header → (p : Program) (r : Row) → get_or (programmed p r).words i 0 ≡ get_or r.words i 0
 programmed_header i low high p r =
     programmed_low i low (omega arith) p r
@@ -83,8 +83,14 @@ module _ (p : Program) (words marks : ℕ) where
     unfolding new_executor
     new_header i low high = programmed_header i low high p (blank words marks) ∙ get_or-replicate words i 0 0 (omega arith)
 
+    pub new_depth : depth_of (new_executor p words marks) ≡ 0
+    new_depth = new_header 2 (omega arith) (omega arith)
+
     pub new_limit : limit_of (new_executor p words marks) ≡ 0
     new_limit = new_header 3 (omega arith) (omega arith)
+
+    pub new_born : born_of (new_executor p words marks) ≡ 0
+    new_born = new_header 5 (omega arith) (omega arith)
 
     pub new_zero_mark : get_or (new_executor p words marks).marks 0 0 ≡ 1
     unfolding new_executor

@@ -1,10 +1,10 @@
--- What an instruction leaves alone: the lengths of a row and its limit; and depth grows by 1.
+-- What an instruction leaves alone: the lengths of a row, its limit and its word `born`; and depth grows by 1.
 use Rattle.std.proofs.Common.{Bool, true, false, ◌≡◌, refl, ◌∙◌, List, ℕ, ◌+◌, ◌<◌, arith, length, length-set, get_or-set_same, get_or-set_other, Option, Some, None, Result, Ok, Err}
 use Rattle.riscu.specs.Decoding.{decoded}
 use Rattle.riscu.specs.declared.instruction.Instruction.{Instruction}
 use Rattle.answers.specs.declared.error.ExecutorError.{ExecutorError}
 use Rattle.effects.specs.declared.effect.Effect.{Effect}
-use Rattle.rows.specs.Rows.{Row, depth_of, limit_of}
+use Rattle.rows.specs.Rows.{Row, depth_of, limit_of, born_of}
 use Rattle.execution.specs.Execution.{effect_in, applied, next_of}
 use Rattle.execution.specs.declared.Next.{Next}
 use Rattle.execution.specs.declared.Next.TheVariants as next
@@ -12,7 +12,7 @@ use Rattle.execution.proofs.Kept.{applied_words, applied_marks, applied_header}
 use Rattle.calls.specs.Calls.{system, completed}
 use Rattle.calls.specs.declared.step.Step.{Step}
 use Rattle.calls.specs.declared.step.Step.TheVariants as step
-use Rattle.calls.proofs.Kept.{system_words, system_marks, system_depth, system_limit, completed_words, completed_marks, completed_depth, completed_limit}
+use Rattle.calls.proofs.Kept.{system_words, system_marks, system_depth, system_limit, system_born, completed_words, completed_marks, completed_depth, completed_limit, completed_born}
 use Rattle.machine.specs.Steps.{fetched, followed, executed, interpreted, deeper, stepped, settled, advanced}
 use Rattle.machine.specs.Handing.{handed, stepped_by}
 
@@ -84,6 +84,11 @@ advanced_limit tape used r =
     advanced_kept limit_of (applied_header 3 (omega arith) (omega arith)) system_limit completed_limit tape used r
     ∙ get_or-set_other r.words 2 3 (depth_of r + 1) 0 (λ e. omega arith)
 
+pub advanced_born : (tape : List ℕ) (used : ℕ) (r : Row) → born_of (advanced tape used r).row ≡ born_of r
+advanced_born tape used r =
+    advanced_kept born_of (applied_header 5 (omega arith) (omega arith)) system_born completed_born tape used r
+    ∙ get_or-set_other r.words 2 5 (depth_of r + 1) 0 (λ e. omega arith)
+
 pub stepped_words : (tape : List ℕ) (used : ℕ) (r : Row) → length (stepped tape used r).row.words ≡ length r.words
 stepped_words tape used r =
     stepped_kept (λ (r : Row). length r.words) applied_words system_words tape used r ∙ length-set r.words 2 (depth_of r + 1)
@@ -100,6 +105,11 @@ pub stepped_limit : (tape : List ℕ) (used : ℕ) (r : Row) → limit_of (stepp
 stepped_limit tape used r =
     stepped_kept limit_of (applied_header 3 (omega arith) (omega arith)) system_limit tape used r
     ∙ get_or-set_other r.words 2 3 (depth_of r + 1) 0 (λ e. omega arith)
+
+pub stepped_born : (tape : List ℕ) (used : ℕ) (r : Row) → born_of (stepped tape used r).row ≡ born_of r
+stepped_born tape used r =
+    stepped_kept born_of (applied_header 5 (omega arith) (omega arith)) system_born tape used r
+    ∙ get_or-set_other r.words 2 5 (depth_of r + 1) 0 (λ e. omega arith)
 
 pub stepped_by_depth : (out : Bool) (tape : List ℕ) (used : ℕ) (r : Row) → 2 < length r.words → depth_of (stepped_by out tape used r).row ≡ depth_of r + 1
 stepped_by_depth out tape used r h =

@@ -31,8 +31,8 @@ module _ {A : Type 0} (f : Row → A) (each : (m logged stored : ℕ) (r : Row) 
   unfolding full_words
   full_words_kept zero tape m used r = refl
   full_words_kept (suc n) tape m used r =
-      then_kept f (full_words n tape (m + 1)) (λ u s. full_words_kept n tape (m + 1) u s) (full_word (drawn tape used r) m used r) r
-      (full_word_kept (drawn tape used r) m used r)
+      then_kept f (full_words n tape (m + 1)) (λ u s. full_words_kept n tape (m + 1) u s) (full_word (drawn (log_start r) tape used r) m used r) r
+      (full_word_kept (drawn (log_start r) tape used r) m used r)
 
   tail_of_kept : (d : Result ℕ ExecutorError) (c unit m used : ℕ) (r : Row) → f (tail_of d c unit m used r).row ≡ f r
   unfolding tail_of
@@ -41,7 +41,7 @@ module _ {A : Type 0} (f : Row → A) (each : (m logged stored : ℕ) (r : Row) 
 
   tail_kept : (v : Value) (tape : List ℕ) (unit m used : ℕ) (r : Row) → f (tail v tape unit m used r).row ≡ f r
   unfolding tail
-  tail_kept (Concrete c) tape unit m used r = tail_of_kept (drawn tape used r) c unit m used r
+  tail_kept (Concrete c) tape unit m used r = tail_of_kept (drawn (log_start r) tape used r) c unit m used r
   tail_kept Uninitialized tape unit m used r = refl
 
   rest_kept : (size : ℕ) (tape : List ℕ) (m used : ℕ) (r : Row) → f (rest size tape m used r).row ≡ f r
@@ -65,12 +65,12 @@ unfolding recorded
 recorded_marks m logged stored r = simp length-set
 
 -- of the header only the log count, word 4, is written
-recorded_header : (i : ℕ) → i < 4 → (m logged stored : ℕ) (r : Row) → get_or (recorded m logged stored r).words i 0 ≡ get_or r.words i 0
+recorded_header : (i : ℕ) → (i ≡ 4 → ⊥) → i < header → (m logged stored : ℕ) (r : Row) → get_or (recorded m logged stored r).words i 0 ≡ get_or r.words i 0
 unfolding recorded
-recorded_header i h m logged stored r =
+recorded_header i other h m logged stored r =
     let noted = set_word (log_start r + log_count r) logged r in
     get_or-set_other (set_log_count (log_count r + 1) noted).words (header + (32 + m)) i stored 0 (λ e. omega arith)
-    ∙ get_or-set_other noted.words 4 i (log_count r + 1) 0 (λ e. omega arith)
+    ∙ get_or-set_other noted.words 4 i (log_count r + 1) 0 (λ e. other (omega arith))
     ∙ get_or-set_other r.words (log_start r + log_count r) i logged 0 (λ e. omega arith)
 
 pub bytes_words : (size : ℕ) (tape : List ℕ) (m used : ℕ) (r : Row) → length (bytes size tape m used r).row.words ≡ length r.words
@@ -79,5 +79,5 @@ bytes_words = bytes_kept (λ (r : Row). length r.words) recorded_words
 pub bytes_marks : (size : ℕ) (tape : List ℕ) (m used : ℕ) (r : Row) → length (bytes size tape m used r).row.marks ≡ length r.marks
 bytes_marks = bytes_kept (λ (r : Row). length r.marks) recorded_marks
 
-pub bytes_header : (i : ℕ) → i < 4 → (size : ℕ) (tape : List ℕ) (m used : ℕ) (r : Row) → get_or (bytes size tape m used r).row.words i 0 ≡ get_or r.words i 0
-bytes_header i h = bytes_kept (λ (r : Row). get_or r.words i 0) (recorded_header i h)
+pub bytes_header : (i : ℕ) → (i ≡ 4 → ⊥) → i < header → (size : ℕ) (tape : List ℕ) (m used : ℕ) (r : Row) → get_or (bytes size tape m used r).row.words i 0 ≡ get_or r.words i 0
+bytes_header i other h = bytes_kept (λ (r : Row). get_or r.words i 0) (recorded_header i other h)

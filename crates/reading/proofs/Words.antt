@@ -3,11 +3,11 @@ use Rattle.std.proofs.Common.{List, ◌≡◌, sym, ap, ◌∙◌, ℕ, suc, ◌
 use Rattle.answers.specs.declared.outcome.Outcome.{Outcome}
 use Rattle.answers.specs.declared.outcome.Progress.{Progress}
 use Rattle.answers.specs.declared.outcome.Progress.TheVariants.{Running, Ended}
-use Rattle.rows.specs.Rows.{Row}
+use Rattle.rows.specs.Rows.{Row, log_start}
 use Rattle.reading.specs.Reading.{Reached, running, ended, onwards, ◌then_on◌, drawn, full_word, full_words}
 
 -- k of n words are read, and x is what reading the next comes to
-module _ (n k m : ℕ) (tape : List ℕ) (used : ℕ) (r : Row) (x : Reached) (more : k < n) (read : x ≡ full_word (drawn tape used r) (m + k) used r) where
+module _ (n k m : ℕ) (tape : List ℕ) (used : ℕ) (r : Row) (x : Reached) (more : k < n) (read : x ≡ full_word (drawn (log_start r) tape used r) (m + k) used r) where
   turn : full_words (n - k) tape (m + k) used r ≡ x then_on full_words (n - (k + 1)) tape (m + (k + 1))
   unfolding full_words
   turn =

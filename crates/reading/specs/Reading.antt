@@ -8,7 +8,7 @@ use Rattle.answers.specs.declared.outcome.Progress.{Progress}
 use Rattle.answers.specs.declared.outcome.Progress.TheVariants.{Running, Ended}
 use Rattle.values.specs.declared.Value.{Value}
 use Rattle.values.specs.declared.Value.TheVariants.{Concrete, Uninitialized}
-use Rattle.rows.specs.Rows.{Row, log_start, log_room, log_count, set_word, set_log_count, memory_at, set_memory}
+use Rattle.rows.specs.Rows.{Row, log_start, room_from, log_count, set_word, set_log_count, memory_at, set_memory}
 
 -- whether an executor goes on, and the tape words used so far
 pub record Moved : Type 0 where
@@ -43,15 +43,18 @@ infixl 20 ◌then_on◌
 abbrev pub ◌then_on◌ : Reached → (ℕ → Row → Reached) → Reached
 x then_on then = onwards then x.moved.progress x.moved.used x.row
 
--- the next word of the tape: 25 where the log is full, then 24 where the tape is empty
-unfoldable pub drawn : List ℕ → ℕ → Row → Result ℕ ExecutorError
-drawn tape used r =
-    cond (ltb (log_count r) (log_room r)) (cond (ltb used (length tape)) (Ok (get_or tape used 0)) (Err TapeEmpty)) (Err LogFull)
+-- the next word of the tape: 25 where the log, which starts at some word, is full, then 24 where the tape is empty
+unfoldable pub drawn : ℕ → List ℕ → ℕ → Row → Result ℕ ExecutorError
+drawn log tape used r =
+    cond (ltb (log_count r) (room_from log r)) (cond (ltb used (length tape)) (Ok (get_or tape used 0)) (Err TapeEmpty)) (Err LogFull)
 
--- a word goes to the end of the log, and one to memory word m
+-- a word goes to the end of the log
+abbrev pub logged_at : ℕ → ℕ → Row → Row
+logged_at log x r = set_log_count (log_count r + 1) (set_word (log + log_count r) x r)
+
+-- and one to memory word m
 unfoldable pub recorded : ℕ → ℕ → ℕ → Row → Row
-recorded m logged stored r =
-    set_memory m (Concrete stored) (set_log_count (log_count r + 1) (set_word (log_start r + log_count r) logged r))
+recorded m logged stored r = set_memory m (Concrete stored) (logged_at (log_start r) logged r)
 
 -- a full word: memory word m takes a draw
 unfoldable pub full_word : Result ℕ ExecutorError → ℕ → ℕ → Row → Reached
@@ -61,7 +64,7 @@ full_word (Err e) m used r = ended (Failed e) used r
 -- n full words from memory word m on
 unfoldable pub full_words : ℕ → List ℕ → ℕ → ℕ → Row → Reached
 full_words zero tape m used r = running used r
-full_words (suc n) tape m used r = full_word (drawn tape used r) m used r then_on full_words n tape (m + 1)
+full_words (suc n) tape m used r = full_word (drawn (log_start r) tape used r) m used r then_on full_words n tape (m + 1)
 
 -- a tail of k bytes, unit being 2^8k: a draw replaces the low k bytes of the word that memory word m holds, and only those are logged
 unfoldable pub tail_of : Result ℕ ExecutorError → ℕ → ℕ → ℕ → ℕ → Row → Reached
@@ -70,7 +73,7 @@ tail_of (Err e) held unit m used r = ended (Failed e) used r
 
 -- on an uninitialised word reading stops without a draw
 unfoldable pub tail : Value → List ℕ → ℕ → ℕ → ℕ → Row → Reached
-tail (Concrete held) tape unit m used r = tail_of (drawn tape used r) held unit m used r
+tail (Concrete held) tape unit m used r = tail_of (drawn (log_start r) tape used r) held unit m used r
 tail Uninitialized tape unit m used r = running used r
 
 -- what is left of size bytes once the full words from m on are read

@@ -2,29 +2,40 @@
 #![tactic(auto)]
 
 ghost use Rattle.std.specs.Prelude.{◌≡◌, ◌+◌, ◌*◌, ◌/◌, ◌<◌, ◌≤◌, ◌^◌, OnOk, length};
-ghost use Rattle.rows.specs.Rows.{memory_words, log_room, log_count};
+ghost use Rattle.rows.specs.Rows.{memory_words, log_start, room_from, log_room, log_count};
 ghost use Rattle.rows.specs.Lent.{seen, lent, SameSlices};
-ghost use Rattle.reading.specs.Reading.{reached, drawn as drawn_of, recorded, full_word, full_words, tail as tail_in, rest as rest_of, bytes as bytes_of};
+ghost use Rattle.reading.specs.Reading.{reached, drawn as drawn_of, logged_at, recorded, full_word, full_words, tail as tail_in, rest as rest_of, bytes as bytes_of};
 
 use answers::error::ExecutorError;
-use rows::row::{HEADER, LOG_COUNT, RowMut, RowRef};
+use rows::row::{LOG_COUNT, RowMut, RowRef};
 use values::Value;
 
-// The next tape word, or why there is none.
+// The next tape word, or why there is none; the row's log starts at word `log`.
 #[tactic(auto, unfolding(crate::specs::Reading::drawn))]
-fn draw(row: RowRef, tape: &[u64], used: usize) -> Result<u64, ExecutorError>
-    ensures value { result ≡ drawn_of tape.now used (seen row.entry) }
-    ensures room { OnOk result (log_count (seen row.entry) < log_room (seen row.entry)) }
+fn draw(row: RowRef, log: usize, tape: &[u64], used: usize) -> Result<u64, ExecutorError>
+    requires { log ≤ length row.words.now }
+    ensures value { result ≡ drawn_of log tape.now used (seen row.entry) }
+    ensures room { OnOk result (log_count (seen row.entry) < room_from log (seen row.entry)) }
     ensures in_tape { OnOk result (used < length tape.now) }
 {
-    let room = row.words.len() - (row.marks.len() + HEADER);
-    if room as u64 <= row.words[LOG_COUNT] {
+    if (row.words.len() - log) as u64 <= row.words[LOG_COUNT] {
         return Err(ExecutorError::LogFull);
     }
     if tape.len() <= used {
         return Err(ExecutorError::TapeEmpty);
     }
     Ok(tape[used])
+}
+
+// Puts a word behind those that are logged.
+fn log_word(row: &mut RowMut, log: usize, x: u64)
+    requires { log_count (lent row.old) < room_from log (lent row.old) }
+    ensures row_after { lent row.new ≡ logged_at log x (lent row.old) }
+    ensures same_slices { SameSlices row.old row.new }
+{
+    let count = row.words[LOG_COUNT] as usize;
+    row.words[log + count] = x;
+    row.words[LOG_COUNT] = (count + 1) as u64;
 }
 
 // Logs a word, and stores one in memory word m.
@@ -35,10 +46,8 @@ fn record(row: &mut RowMut, m: usize, logged: u64, stored: u64)
     ensures row_after { lent row.new ≡ recorded m logged stored (lent row.old) }
     ensures same_slices { SameSlices row.old row.new }
 {
-    let count = row.words[LOG_COUNT] as usize;
-    let at = row.marks.len() + HEADER + count;
-    row.words[at] = logged;
-    row.words[LOG_COUNT] = (count + 1) as u64;
+    let log = row.view().log_start();
+    log_word(row, log, logged);
     row.write_memory(m, Value::Concrete(stored));
 }
 
@@ -51,10 +60,10 @@ fn read_word(
 ) -> Result<(), ExecutorError>
     requires { m < memory_words (lent row.old) }
     ensures row_after { reached (lent row.new) used.new result
-        ≡ full_word (drawn_of tape.now used.old (lent row.old)) m used.old (lent row.old) }
+        ≡ full_word (drawn_of (log_start (lent row.old)) tape.now used.old (lent row.old)) m used.old (lent row.old) }
     ensures same_slices { SameSlices row.old row.new }
 {
-    let x = draw(row.view(), tape, *used)?;
+    let x = draw(row.view(), row.view().log_start(), tape, *used)?;
     record(row, m, x, x);
     *used += 1;
     Ok(())
@@ -106,7 +115,7 @@ fn read_tail(
     let Value::Concrete(before) = word else {
         return Ok(());
     };
-    let x = draw(row.view(), tape, *used)?;
+    let x = draw(row.view(), row.view().log_start(), tape, *used)?;
     let unit = unit_of(k);
     let low = x % unit;
     record(row, m, low, before / unit * unit + low);

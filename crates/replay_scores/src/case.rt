@@ -10,7 +10,7 @@ use replay_lists::table::{COUNTERS, JUNK_COUNTER, is_left};
 use replay_lists::tally::{Judged, disagrees};
 
 // What there is to lend: sixteen rows of 2,048 bytes of memory and sixteen log words fit, and two scores more.
-const WORDS: usize = 4944;
+const WORDS: usize = 4960;
 
 const MARKS: usize = 4608;
 

@@ -1,5 +1,6 @@
 // The counters of a line, counted over all rows.
 ghost use Rattle.std.specs.Prelude.{◌+◌, ◌≤◌};
+ghost use Rattle.rows.specs.Rows.{header};
 
 use crate::columns::{LOG, MEMORY, ROWS, TRIPLE};
 use counting::counter::counter;
@@ -25,7 +26,7 @@ const COUNTER: usize = 2;
 
 // How the line's store is cut into rows; what is above the most is cut down to it.
 fn layout_of(numbers: &[u64]) -> Layout
-    ensures { (result.rows ≤ 16) × (result.marks ≤ 288) × (result.words ≤ 309) × (result.marks + 5 ≤ result.words) }
+    ensures { (result.rows ≤ 16) × (result.marks ≤ 288) × (result.words ≤ 310) × (result.marks + header ≤ result.words) }
 {
     let rows = number_at(numbers, ROWS).min(MOST_ROWS as u64) as usize;
     let memory = number_at(numbers, MEMORY).min(MOST_MEMORY) / 8;

@@ -12,7 +12,7 @@ use replay_lists::table::{COUNTERS, JUNK_COUNTER, is_left};
 use replay_lists::tally::{Judged, disagrees};
 
 // What there is to lend: twelve rows of 2,048 bytes of memory and sixteen log words fit.
-const WORDS: usize = 3712;
+const WORDS: usize = 3728;
 
 const MARKS: usize = 3456;
 

@@ -1,5 +1,5 @@
 pub mod Zeros
-pub mod Logs
+pub mod Rows
 pub mod Tapes
 pub mod Stores
 pub mod Texts

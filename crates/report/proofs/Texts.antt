@@ -1,5 +1,5 @@
 -- What was printed, under another name of its text.
-use Rattle.std.proofs.Common.{◌≡◌, sym, ap, ◌∙◌, List, [], ℕ, Result, Ok, Err}
+use Rattle.std.proofs.Common.{◌≡◌, sym, ap, ◌∙◌, List, ℕ, None, Result, Ok, Err}
 use Rattle.answers.specs.Answers.{refused_answer}
 use Rattle.lines.specs.Lines.{lines}
 use Rattle.sheet.specs.Sheets.{parsed, bench_limits, sheet_number}
@@ -17,7 +17,7 @@ module _ (s : List ℕ) {l : Limits} {p : Result Sheet SheetError} (bench : l �
   pub sheet_is : {q : Result Sheet SheetError} → p ≡ q → parsed bench_limits s ≡ q
   sheet_is e = ap (λ (k : Limits). parsed k s) (sym bench) ∙ sym parse ∙ e
 
-  pub refused_printed : {error : SheetError} → p ≡ Err error → lines (refused_answer (sheet_number error)) [] ≡ printed s
+  pub refused_printed : {error : SheetError} → p ≡ Err error → lines (refused_answer (sheet_number error)) None ≡ printed s
   unfolding printed_by
   refused_printed e = rw (sheet_is e)
 

@@ -6,7 +6,7 @@ use Rattle.lines.specs.Lines.{lines}
 use Rattle.search.specs.Entry.{search_answer}
 use Rattle.rounds.specs.declared.call.Ended.{Ended}
 use Rattle.checks.specs.declared.refusal.Refusal.{Refusal}
-use Rattle.report.specs.Reports.{most_printed, told_inputs}
+use Rattle.report.specs.Reports.{most_printed, told_by}
 
 -- a text at the front of an output that held out before, and how many bytes it has
 pub record Printed (text out out' : List ℕ) (count : ℕ) : Type 0 where
@@ -16,4 +16,4 @@ pub record Printed (text out out' : List ℕ) (count : ℕ) : Type 0 where
 
 -- what is printed of an answer, by the rows
 abbrev pub answer_lines : Result Ended Refusal → List Row → List ℕ
-answer_lines a rows = lines (search_answer a) (told_inputs a rows)
+answer_lines a rows = lines (search_answer a) (told_by a rows)

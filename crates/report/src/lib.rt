@@ -2,7 +2,7 @@
 // caller.
 #![tactic(auto)]
 
-ghost use Rattle.std.specs.Prelude.{◌≡◌, Ok, [], ◌+◌, ◌≤◌, length, take};
+ghost use Rattle.std.specs.Prelude.{◌≡◌, Ok, None, ◌+◌, ◌≤◌, length, take};
 ghost use Rattle.answers.specs.Answers.{refused_answer};
 ghost use Rattle.writing.specs.Written.{written};
 ghost use Rattle.lines.specs.Lines.{lines};
@@ -12,11 +12,10 @@ ghost use Rattle.sheet.specs.Sheets.{parsed, bench_limits};
 ghost use Rattle.report.specs.Reports.{sheet_buffer, most_printed, printed, search_printed};
 ghost use Rattle.report.specs.Printing.{Printed, answer_lines};
 
-mod inputs;
 mod searching;
+mod told;
 
 use answers::answer::Answer;
-use inputs::told;
 use lines::write_lines;
 use rounds::call::Ended;
 use rows::row::{HEADER, REGISTERS};
@@ -25,11 +24,12 @@ use sheet::limits::{Limits, MOST_LOG, MOST_MEMORY, MOST_SHEET, MOST_STATES};
 use sheet::parse::{Sheet, parse};
 use store::layout::Layout;
 use store::view::StoreRef;
+use told::told;
 
 // A buffer for a sheet has one byte more than a sheet may have, so that a longer one is seen.
 pub const SHEET_BUFFER: usize = MOST_SHEET + 1;
 
-// The most bytes that are printed: an answer, 64 inputs and the used count have 1,858.
+// The most bytes that are printed: an answer, a round, 64 inputs and the used count have 1,884.
 pub const MOST_PRINTED: usize = 2048;
 
 // The most marks of a row: one for each register and each word of memory.
@@ -42,12 +42,12 @@ const MOST_MARKS: usize = MOST_STATES * ROW_MARKS;
 
 // Prints the number that refuses a sheet, or the search that it asks for.
 fn report_refusal(number: u64, out: &mut [u8; MOST_PRINTED]) -> usize
-    ensures { Printed (lines (refused_answer number) []) out.old out.new result }
+    ensures { Printed (lines (refused_answer number) None) out.old out.new result }
 {
-    write_lines(Answer::refused(number), &[], out)
+    write_lines(Answer::refused(number), None, out)
 }
 
-// Prints how a search ended, and the inputs that this tells from its store.
+// Prints how a search ended, and what is told of it from its store.
 fn report_end(ended: Ended, store: StoreRef, out: &mut [u8; MOST_PRINTED]) -> usize
     requires { store.layout.words ≤ store.layout.marks + header + bench_limits.log }
     ensures { Printed (answer_lines (Ok ended) (rows_seen store.entry)) out.old out.new result }

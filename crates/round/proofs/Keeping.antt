@@ -13,7 +13,8 @@ use Rattle.rarity.proofs.Among.{scores_length}
 use Rattle.answers.specs.declared.finding.Finding.TheVariants.{ScoresUnordered}
 use Rattle.options.specs.declared.RaritySimulationOptions.{RaritySimulationOptions}
 use Rattle.rounds.specs.Handed.{Holding}
-use Rattle.rounds.specs.Rounds.{stored, chosen_of, goes_on, ends, selected}
+use Rattle.rounds.specs.Rounds.{stored, chosen_of, ends, selected}
+use Rattle.rounds.specs.Series.{goes_on}
 use Rattle.rounds.specs.Selection.{rarest}
 use Rattle.rounds.proofs.Choosing.{rarest_as_many}
 use Rattle.filling.proofs.Fronts.{Front, front_taken, front_holds}

@@ -79,11 +79,13 @@ fn run_and_keep(
     keep_rarest(store, table, options, &running[0..n], all.used)
 }
 
-// A whole round, on a store that holds the kept rows. Rows are scored by the table, or over the rows where it has no counters; the search is the same.
+// Round `number`, whole, on a store that holds the kept rows. Rows are scored by the table, or over the rows where it has no counters;
+// the search is the same.
 pub fn round(
     store: &mut StoreMut,
     table: &mut [u32],
     call: Call,
+    number: u32,
     start: Start,
 ) -> Result<Start, Ended>
     requires table { ZeroTable (memory_of store.old.layout) table.old }
@@ -91,11 +93,11 @@ pub fn round(
     requires callable { Callable (call_of store.old.layout call) }
     requires limits_allow { LimitsAllow call.options.step_size (start_of store.old start).kept }
     ensures result_after { after_in store.new result
-        ≡ round_with_filling (call_of store.old.layout call.entry) (start_of store.old start) }
+        ≡ round_with_filling (call_of store.old.layout call.entry) number (start_of store.old start) }
     ensures ready { Ready store.new result }
     ensures same_store { SameStore store.old store.new }
     ensures same_table { table.new ≡ table.old }
 {
-    let used = create_missing_executors(store, call, start)?;
+    let used = create_missing_executors(store, call, number, start)?;
     run_and_keep(store, table, call.options, call.tape, used)
 }

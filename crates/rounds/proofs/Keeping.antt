@@ -16,7 +16,8 @@ use Rattle.answers.specs.declared.finding.Finding.{Finding}
 use Rattle.answers.specs.declared.finding.Finding.TheVariants.{Nothing, Found, Failed, TapeShort, ScoresUnordered}
 use Rattle.rounds.specs.Calls.{Call}
 use Rattle.rounds.specs.Demand.{Permutation, All}
-use Rattle.rounds.specs.Rounds.{Start, Ranked, state_of, ranked_among, lower, chosen_of, After, goes_on, ends_or, selected}
+use Rattle.rounds.specs.Rounds.{Start, Ranked, state_of, ranked_among, lower, chosen_of, After, ends_or, selected}
+use Rattle.rounds.specs.Series.{goes_on}
 use Rattle.rounds.proofs.Choosing.{rarest_each_once, rarest_as_many, rarest_lowest}
 use Rattle.rounds.proofs.Floats.{lt_irreflexive, lt_transitive, not_lt_le}
 use Rattle.rounds.proofs.Lists.{permutation_map, all_permuted, all_left, all_right, all_mem, all_with, all_both, all_among, all_map}

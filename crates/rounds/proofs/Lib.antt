@@ -10,3 +10,4 @@ pub mod Handing
 pub mod Every
 pub mod Fronts
 pub mod Demand
+pub mod Ages

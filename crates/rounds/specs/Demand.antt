@@ -6,7 +6,8 @@ use Rattle.means.specs.Means.{Fraction, exact_mean, AtMost}
 use Rattle.counting.specs.Counters.{counters_of}
 use Rattle.answers.specs.declared.finding.Finding.TheVariants.{Nothing}
 use Rattle.rounds.specs.Calls.{Call, of_rounds}
-use Rattle.rounds.specs.Rounds.{Start, stored, outcome_of, still_running, state_of, chosen_of, Round, goes_on, rounds_of, searched}
+use Rattle.rounds.specs.Rounds.{Start, stored, outcome_of, still_running, state_of, chosen_of, Round, rounds_of, searched}
+use Rattle.rounds.specs.Series.{goes_on}
 
 module _ {A : Type 0} where
   -- l becomes m when x is put in somewhere

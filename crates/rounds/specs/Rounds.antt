@@ -1,10 +1,10 @@
 -- The search ("The search call" in document 01): filling, running all, choosing the outcome, keeping the rarest, round after round.
-use Rattle.std.specs.Prelude.{Bool, true, false, cond, List, [], ◌∷◌, ◌++◌, map, ℕ, zero, suc, ◌+◌, ◌-◌, ◌%◌, ltb, Float, length, take, drop, replicate}
+use Rattle.std.specs.Prelude.{Bool, true, false, cond, Result, Ok, Err, List, [], ◌∷◌, ◌++◌, map, ℕ, suc, ◌+◌, ◌-◌, ◌%◌, ltb, Float, length, take, drop, replicate}
 use Rattle.std.specs.Float.Ieee.{lt}
 use Rattle.answers.specs.declared.outcome.Outcome.TheVariants as outcome
 use Rattle.answers.specs.declared.outcome.Progress.{Progress}
 use Rattle.answers.specs.declared.outcome.Progress.TheVariants.{Running, Ended}
-use Rattle.rows.specs.Rows.{Row}
+use Rattle.rows.specs.Rows.{Row, set_born}
 use Rattle.loader.specs.Loading.{new_executor}
 use Rattle.machine.specs.Runs.{Finished, run_of}
 use Rattle.store.specs.Store.{nth_row, zero_row}
@@ -18,6 +18,7 @@ use Rattle.options.specs.declared.RaritySimulationOptions.{RaritySimulationOptio
 use Rattle.rounds.specs.Calls.{Call}
 use Rattle.rounds.specs.Copies.{copies_of}
 use Rattle.rounds.specs.Selection.{Chosen, rarest}
+use Rattle.rounds.specs.Series.{Next, goes_on, over, rounds, search_from}
 
 -- what a round starts from: the rows kept, and how many tape words are used
 pub record Start : Type 0 where
@@ -47,15 +48,16 @@ tape_short c s = ltb (length c.tape - s.used) (copies c s)
 abbrev pub parent : List Row → ℕ → Row
 parent kept word = nth_row kept (word % length kept)
 
-abbrev pub new_row : Call → Row
-new_row c = new_executor c.image c.store.words c.store.marks
+-- created anew in round k
+abbrev pub new_row : Call → ℕ → Row
+new_row c k = set_born k (new_executor c.image c.store.words c.store.marks)
 
 -- copies come first, then new executors
-unfoldable pub filled : Call → Start → List Row
-filled c s =
+unfoldable pub filled : Call → ℕ → Start → List Row
+filled c k s =
     s.kept
     ++ (map (parent s.kept) (take (copies c s) (drop s.used c.tape))
-    ++ replicate (missing c s - copies c s) (new_row c))
+    ++ replicate (missing c s - copies c s) (new_row c k))
 
 -- ---- running every executor in row order (run_all), each from where the last one left the tape
 -- 22: not an error to the search
@@ -127,10 +129,18 @@ unfoldable pub chosen_of : RaritySimulationOptions → List Row → Chosen Ranke
 chosen_of o rows = rarest lower o.selection (map (ranked_among o.mean rows) rows)
 
 -- ---- a round
+-- what is answered and left
+pub record Searched : Type 0 where
+  pub finding : Finding
+  pub rows : List Row
+  pub used : ℕ
+
 -- the search goes on, or it ends with a finding, the rows of the store and the tape words used
-pub data After : Type 0 where
-  goes_on : Start → After
-  ends : Finding → List Row → ℕ → After
+abbrev pub After : Type 0
+After = Next Start Searched
+
+abbrev pub ends : Finding → List Row → ℕ → After
+ends f rows used = over (record { finding = f; rows = rows; used = used })
 
 -- with a bug or error the rows stay as the runs left them
 abbrev pub ends_or : Finding → List Row → ℕ → After → After
@@ -148,6 +158,8 @@ selected o rows used running =
     (ends ScoresUnordered rows used)
 
 pub record Round : Type 0 where
+  -- the rows that it runs
+  pub full : List Row
   pub runs : List Finished
   pub after : After
 
@@ -157,42 +169,28 @@ ran_on o tape first full =
     let runs = run_all o.step_size tape first full in
     let rows = map row_after runs in
     let used = used_after first runs in
-    record { runs = runs; after = ends_or (outcome_of runs) rows used (selected o rows used (still_running runs)) }
+    record { full = full; runs = runs; after = ends_or (outcome_of runs) rows used (selected o rows used (still_running runs)) }
 
-unfoldable pub round_of : Call → Start → Round
-round_of c s = ran_on c.options c.tape (s.used + copies c s) (filled c s)
+-- round k from a start, counted from 0
+unfoldable pub round_of : Call → ℕ → Start → Round
+round_of c k s = ran_on c.options c.tape (s.used + copies c s) (filled c k s)
 
--- ---- the rounds of a call, at most n from a start on; a round that filling stops is none
-abbrev pub rounds_after : After → (Start → List Round) → List Round
-rounds_after (goes_on s) more = more s
-rounds_after (ends f rows used) more = []
+-- ---- the rounds of a call
+abbrev pub round_after : Round → After
+round_after r = r.after
 
-unfoldable pub rounds : ℕ → Call → Start → List Round
-rounds zero c s = []
-rounds (suc n) c s = cond (tape_short c s) [] (round_of c s ∷ rounds_after (round_of c s).after (λ next. rounds n c next))
+-- what a search leaves that ends between two rounds
+abbrev pub between : Call → Finding → Start → Searched
+between c f s = record { finding = f; rows = stored c.store s.kept; used = s.used }
+
+-- 8 ends the search where it is met: that round is none
+unfoldable pub round_made : Call → ℕ → Start → Result Round Searched
+round_made c k s = cond (tape_short c s) (Err (between c TapeShort s)) (Ok (round_of c k s))
 
 -- the list of a call's rounds
 abbrev pub rounds_of : Call → List Round
-rounds_of c = rounds c.options.iterations c beginning
+rounds_of c = rounds round_after (round_made c) c.options.iterations 0 beginning
 
--- ---- what is answered and left, by the same recursion
-pub record Searched : Type 0 where
-  pub finding : Finding
-  pub rows : List Row
-  pub used : ℕ
-
-abbrev pub searched_after : After → (Start → Searched) → Searched
-searched_after (goes_on s) more = more s
-searched_after (ends f rows used) more = record { finding = f; rows = rows; used = used }
-
--- after the last round the answer is 0; 8 ends the search where it is met
-unfoldable pub search_from : ℕ → Call → Start → Searched
-search_from zero c s = record { finding = Nothing; rows = stored c.store s.kept; used = s.used }
-search_from (suc n) c s =
-    cond (tape_short c s)
-    (record { finding = TapeShort; rows = stored c.store s.kept; used = s.used })
-    (searched_after (round_of c s).after (λ next. search_from n c next))
-
--- what a call answers and leaves
+-- what a call answers and leaves; after the last round the answer is 0
 abbrev pub searched : Call → Searched
-searched c = search_from c.options.iterations c beginning
+searched c = search_from round_after (round_made c) (between c Nothing) c.options.iterations 0 beginning

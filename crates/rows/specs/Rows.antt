@@ -1,5 +1,5 @@
 -- The row of one executor ("A row" in document 01): its words and its marks. No other definition knows a place in it.
--- Words: pc, break, depth, limit, log count, 32 registers, W memory words, L log words. Marks: one for each register and memory word.
+-- Words: pc, break, depth, limit, log count, born, 32 registers, W memory words, L log words. Marks: one for each register and memory word.
 -- Registers and memory words are one run of slots: register n is slot n, memory word m is slot 32 + m; a slot has a word and a mark.
 use Rattle.std.specs.Prelude.{List, ℕ, ◌+◌, ◌-◌, ◌≤◌, length, get_or, set, drop, replicate}
 use Rattle.values.specs.Values.{register_count, value_at}
@@ -19,7 +19,7 @@ blank words marks = row (replicate words 0) (replicate marks 0)
 
 -- the number of words before the slots
 abbrev pub header : ℕ
-header = 5
+header = 6
 
 -- how many words and marks a row of W memory words and L log words has
 abbrev pub row_words : ℕ → ℕ → ℕ
@@ -44,8 +44,12 @@ memory_words r = memory_in r.marks
 abbrev pub log_start : Row → ℕ
 log_start r = length r.marks + header
 
+-- how many words there are from a place on; L, where the log starts there
+abbrev pub room_from : ℕ → Row → ℕ
+room_from at r = length r.words - at
+
 abbrev pub log_room : Row → ℕ
-log_room r = length r.words - log_start r
+log_room r = room_from (log_start r) r
 
 abbrev pub pc_of : Row → ℕ
 pc_of r = get_or r.words 0 0
@@ -61,6 +65,10 @@ limit_of r = get_or r.words 3 0
 
 abbrev pub log_count : Row → ℕ
 log_count r = get_or r.words 4 0
+
+-- in a search: the round, counted from 0, in which its first ancestor was created anew
+abbrev pub born_of : Row → ℕ
+born_of r = get_or r.words 5 0
 
 abbrev pub set_word : ℕ → ℕ → Row → Row
 set_word i x r = row (set r.words i x) r.marks
@@ -79,6 +87,9 @@ set_limit x r = set_word 3 x r
 
 abbrev pub set_log_count : ℕ → Row → Row
 set_log_count x r = set_word 4 x r
+
+abbrev pub set_born : ℕ → Row → Row
+set_born x r = set_word 5 x r
 
 -- the value in slot n; of register n; of memory word m
 abbrev pub slot_at : Row → ℕ → Value

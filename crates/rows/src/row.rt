@@ -16,10 +16,13 @@ pub const DEPTH: usize = 2;
 // the depth at which a run stops,
 pub const LIMIT: usize = 3;
 
-// and how many input words were logged.
+// how many input words were logged,
 pub const LOG_COUNT: usize = 4;
+
+// and, in a search, the round in which its first ancestor was created anew; no instruction reads or writes it.
+pub const BORN: usize = 5;
 // How many these are: slot n is word HEADER + n.
-pub const HEADER: usize = 5;
+pub const HEADER: usize = 6;
 // Slots below this are registers; memory word m is slot REGISTERS + m.
 pub const REGISTERS: usize = 32;
 
@@ -32,7 +35,7 @@ pub struct RowRef<'a> {
 }
 
 impl<'a> RowRef<'a> {
-    ghost use Rattle.rows.specs.Rows.{header, memory_words, slot_at, memory_at};
+    ghost use Rattle.rows.specs.Rows.{header, memory_words, log_start, slot_at, memory_at};
     ghost use Rattle.rows.specs.Lent.{seen};
 
     // All slots, the registers first.
@@ -51,6 +54,13 @@ impl<'a> RowRef<'a> {
         ensures { result ≡ memory_words (seen self.now) }
     {
         self.marks.len() - REGISTERS
+    }
+
+    // Where the log starts.
+    pub fn log_start(&self) -> usize
+        ensures { result ≡ log_start (seen self.now) }
+    {
+        self.marks.len() + HEADER
     }
 
     // The value in slot n.

@@ -3,3 +3,4 @@ pub mod Printing
 pub mod Halts
 pub mod Turns
 pub mod Entering
+pub mod Born

@@ -1,5 +1,5 @@
 // The counter runner: a label program on a keyed order, without the search, for hosts. What the program writes goes to a lent output.
-// Nothing is asked of the caller; words are exactly 37 + W + L and marks 32 + W, as for an executor, and what is refused changes nothing.
+// Nothing is asked of the caller; words are exactly 38 + W + L and marks 32 + W, as for an executor, and what is refused changes nothing.
 #![tactic(auto)]
 
 ghost use Rattle.std.specs.Prelude.{◌≡◌, ◌+◌, ◌*◌, ◌≤◌, ◌<◌, ◌^◌, length};
@@ -9,7 +9,7 @@ ghost use Rattle.loader.specs.Lent.{program_seen};
 ghost use Rattle.calls.specs.Calls.{completed};
 ghost use Rattle.machine.specs.Runs.{answer_of};
 ghost use Rattle.machine.specs.Writes.{bytes_from};
-ghost use Rattle.executor.specs.Entries.{answered};
+ghost use Rattle.executor.specs.Entries.{BornAtZero, answered};
 ghost use Rattle.writing.specs.Writing.{Wrote};
 ghost use Rattle.runner.specs.Serving.{served_of};
 ghost use Rattle.runner.specs.Entry.{printed, left, left_by, run_program, OneRun};
@@ -120,6 +120,7 @@ pub fn run_program(
         ≡ run_program memory log step (program_seen program.entry) input.now (row words.old marks.old) output.old }
     ensures one_run { OneRun memory log step (program_seen program.entry)
         input.now (row words.old marks.old) (answered words.new marks.new result.answer) }
+    ensures born { BornAtZero memory log (program_seen program.entry) (row words.old marks.old) (row words.new marks.new) }
     ensures written_in_bounds { result.written ≤ length output.old }
 {
     match executor::new_executor(words, marks, memory, log, program) {

@@ -16,8 +16,10 @@ use Rattle.store.proofs.Lent.{lengths_fit}
 use Rattle.rounds.specs.Calls.{layout_of, call}
 use Rattle.options.specs.declared.RaritySimulationOptions.{RaritySimulationOptions}
 use Rattle.rounds.specs.Demand.{Demand}
+use Rattle.rounds.specs.Ages.{Ages}
 use Rattle.rounds.proofs.Demand.{demand}
-use Rattle.search.specs.Entry.{option_tests, call_tests, search_checked, Demanded}
+use Rattle.rounds.proofs.Ages.{ages}
+use Rattle.search.specs.Entry.{option_tests, call_tests, search_checked, Demanded, AgesTold}
 
 -- what an accepted call has
 pub record Allowed (o : RaritySimulationOptions) (log : ℕ) (p : Program) (words marks : List ℕ) : Type 0 where
@@ -63,6 +65,11 @@ module _ (o : RaritySimulationOptions) (log : ℕ) (p : Program) (words marks : 
         let a = allowed_by refl h in
         demand (call o (layout_of o log) p tape) a.fit.sized a.ratio
 
+    pub ages_by : (tape : List ℕ) → checked_by tests ≡ Ok tt → Ages (call o (layout_of o log) p tape)
+    ages_by tape h =
+        let a = allowed_by refl h in
+        ages (call o (layout_of o log) p tape) a.fit.sized a.ratio
+
   -- of the entry that tests nothing between them
   pub allowed : {r : Result (Unit {0}) Refusal} → r ≡ checked_by (call_tests o log p (length words) (length marks)) → r ≡ Ok tt
       → Allowed o log p words marks
@@ -71,3 +78,7 @@ module _ (o : RaritySimulationOptions) (log : ℕ) (p : Program) (words marks : 
   pub allowed_demand : (tape : List ℕ) → Demanded o log p tape words marks
   unfolding search_checked
   allowed_demand tape h = demand_by [] tape h
+
+  pub allowed_ages : (tape : List ℕ) → AgesTold o log p tape words marks
+  unfolding search_checked
+  allowed_ages tape h = ages_by [] tape h

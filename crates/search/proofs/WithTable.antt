@@ -11,8 +11,8 @@ use Rattle.rounds.specs.Calls.{layout_of}
 use Rattle.tables.specs.Tables.{table_length, zeros}
 use Rattle.tables.specs.Lent.{table_test, ZeroTable}
 use Rattle.tables.proofs.Lending.{cleared}
-use Rattle.search.specs.ByTable.{table_call_tests, table_search_checked, TableDemanded}
-use Rattle.search.proofs.Accepted.{Allowed, row_memory, allowed_by, demand_by}
+use Rattle.search.specs.ByTable.{table_call_tests, table_search_checked, TableDemanded, TableAgesTold}
+use Rattle.search.proofs.Accepted.{Allowed, row_memory, allowed_by, demand_by, ages_by}
 
 module _ (o : RaritySimulationOptions) (log : ℕ) (p : Program) (words marks table : List ℕ) where
   module _ {r : Result (Unit {0}) Refusal} (e : r ≡ checked_by (table_call_tests o log p (length words) (length marks) (length table)))
@@ -30,3 +30,7 @@ module _ (o : RaritySimulationOptions) (log : ℕ) (p : Program) (words marks ta
   pub table_demand : (tape : List ℕ) → TableDemanded o log p tape words marks table
   unfolding table_search_checked
   table_demand tape h = demand_by o log p words marks (table_test (o.memory_size / 8) (length table) ∷ []) tape h
+
+  pub table_ages : (tape : List ℕ) → TableAgesTold o log p tape words marks table
+  unfolding table_search_checked
+  table_ages tape h = ages_by o log p words marks (table_test (o.memory_size / 8) (length table) ∷ []) tape h

@@ -7,6 +7,7 @@ use Rattle.loader.specs.Loading.{Program}
 use Rattle.options.specs.declared.RaritySimulationOptions.{RaritySimulationOptions}
 use Rattle.rounds.specs.Calls.{layout_of, call}
 use Rattle.rounds.specs.Demand.{Demand}
+use Rattle.rounds.specs.Ages.{Ages}
 use Rattle.tables.specs.Lent.{table_test}
 use Rattle.search.specs.Entry.{option_tests, Left, search_left}
 
@@ -28,3 +29,7 @@ table_search_entry o log p tape words marks table = search_left (table_search_ch
 -- demand 3 of a call that is not refused
 abbrev pub TableDemanded : RaritySimulationOptions → ℕ → Program → List ℕ → List ℕ → List ℕ → List ℕ → Type 0
 TableDemanded o log p tape words marks table = table_search_checked o log p words marks table ≡ Ok tt → Demand (call o (layout_of o log) p tape)
+
+-- and its rows' word `born` is true
+abbrev pub TableAgesTold : RaritySimulationOptions → ℕ → Program → List ℕ → List ℕ → List ℕ → List ℕ → Type 0
+TableAgesTold o log p tape words marks table = table_search_checked o log p words marks table ≡ Ok tt → Ages (call o (layout_of o log) p tape)

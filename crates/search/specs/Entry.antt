@@ -11,6 +11,7 @@ use Rattle.loader.specs.Loading.{Program}
 use Rattle.store.specs.Store.{words_of, marks_of}
 use Rattle.rounds.specs.Calls.{layout_of, call}
 use Rattle.rounds.specs.Demand.{Demand}
+use Rattle.rounds.specs.Ages.{Ages}
 use Rattle.answers.specs.Findings.{finding_answer}
 use Rattle.rounds.specs.Rounds.{Searched, searched}
 use Rattle.rounds.specs.declared.call.Ended.{Ended}
@@ -57,6 +58,10 @@ search_entry o log p tape words marks = search_left (search_checked o log p word
 -- demand 3 of a call that is not refused
 abbrev pub Demanded : RaritySimulationOptions → ℕ → Program → List ℕ → List ℕ → List ℕ → Type 0
 Demanded o log p tape words marks = search_checked o log p words marks ≡ Ok tt → Demand (call o (layout_of o log) p tape)
+
+-- and its rows' word `born` is true
+abbrev pub AgesTold : RaritySimulationOptions → ℕ → Program → List ℕ → List ℕ → List ℕ → Type 0
+AgesTold o log p tape words marks = search_checked o log p words marks ≡ Ok tt → Ages (call o (layout_of o log) p tape)
 
 -- the answer in numbers
 abbrev pub search_answer : Result Ended Refusal → Answer

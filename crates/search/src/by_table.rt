@@ -4,7 +4,7 @@ ghost use Rattle.checks.specs.Tests.{checked_by};
 ghost use Rattle.loader.specs.Lent.{program_seen};
 ghost use Rattle.tables.specs.Lent.{table_left};
 ghost use Rattle.search.specs.Entry.{left};
-ghost use Rattle.search.specs.ByTable.{table_option_tests, table_call_tests, table_search_checked, table_search_entry, TableDemanded};
+ghost use Rattle.search.specs.ByTable.{table_option_tests, table_call_tests, table_search_checked, table_search_entry, TableDemanded, TableAgesTold};
 
 use crate::{check_options, search_lent};
 use checks::refusal::Refusal;
@@ -60,6 +60,7 @@ pub fn search_by_table(
     ensures table_after { table.new
         ≡ table_left (table_search_checked options log (program_seen program.entry) words.old marks.old table.old) table.old }
     ensures demanded { TableDemanded options log (program_seen program.entry) tape.now words.old marks.old table.old }
+    ensures ages_told { TableAgesTold options log (program_seen program.entry) tape.now words.old marks.old table.old }
 {
     check_table_call(options, log, words.len(), marks.len(), table.len(), program)?;
     clear_table(table);

@@ -10,7 +10,7 @@ ghost use Rattle.tables.specs.Lent.{ZeroTable};
 ghost use Rattle.rounds.specs.Handed.{call_of, Callable, Holding};
 ghost use Rattle.rounds.specs.Rounds.{searched};
 ghost use Rattle.search.specs.Searching.{ended_of, searched_as};
-ghost use Rattle.search.specs.Entry.{option_tests, call_tests, left, left_by, search_entry, Demanded};
+ghost use Rattle.search.specs.Entry.{option_tests, call_tests, left, left_by, search_entry, Demanded, AgesTold};
 
 pub mod answer;
 pub mod by_table;
@@ -73,8 +73,8 @@ fn search_rounds(store: &mut StoreMut, table: &mut [u32], call: Call) -> Result<
     ensures same_table { table.new ≡ table.old }
 {
     let mut start = Start { kept: 0, used: 0 };
-    for _round in 0..call.options.iterations {
-        start = round(store, table, call, start)?;
+    for number in 0..call.options.iterations {
+        start = round(store, table, call, number, start)?;
     }
     Ok(start)
 }
@@ -128,7 +128,7 @@ pub(crate) fn search_lent(
 }
 
 // Searches a program for bugs, round after round (the Rust's search_for_bugs).
-// The store has exactly one row a state, each of 37 + W + `log` words and 32 + W marks, W being the memory bytes over 8.
+// The store has exactly one row a state, each of 38 + W + `log` words and 32 + W marks, W being the memory bytes over 8.
 pub fn search_for_bugs(
     words: &mut [u64],
     marks: &mut [u8],
@@ -140,6 +140,7 @@ pub fn search_for_bugs(
     ensures result_after { left words.new marks.new result
         ≡ search_entry options log (program_seen program.entry) tape.now words.old marks.old }
     ensures demanded { Demanded options log (program_seen program.entry) tape.now words.old marks.old }
+    ensures ages_told { AgesTold options log (program_seen program.entry) tape.now words.old marks.old }
 {
     check_call(options, log, words.len(), marks.len(), program)?;
     let layout = Layout::new(

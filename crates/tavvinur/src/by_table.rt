@@ -3,7 +3,7 @@ ghost use Rattle.std.specs.Prelude.{◌≡◌, ◌≤◌};
 ghost use Rattle.loader.specs.Loading.{image};
 ghost use Rattle.options.specs.Means.{mean_numbered};
 ghost use Rattle.scoring.specs.ByTable.{TableScoresBounded};
-ghost use Rattle.search.specs.ByTable.{TableDemanded};
+ghost use Rattle.search.specs.ByTable.{TableDemanded, TableAgesTold};
 ghost use Rattle.tavvinur.specs.Flat.{options_of};
 ghost use Rattle.tavvinur.specs.ByTable.{scored, flat_scored, scored_left, table_score_left, TableAlwaysScored, search_left_with, table_search_left};
 
@@ -98,6 +98,9 @@ pub extern "C" fn tavvinur_search_by_table(
         tape.now words.old marks.old table.old }
     ensures demanded { options.mean ≤ 1
         → TableDemanded (options_of options) log (image code_address code.now data_address «data».now)
+        tape.now words.old marks.old table.old }
+    ensures ages_told { options.mean ≤ 1
+        → TableAgesTold (options_of options) log (image code_address code.now data_address «data».now)
         tape.now words.old marks.old table.old }
 {
     if options.mean > MOST_MEAN {

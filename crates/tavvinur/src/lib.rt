@@ -5,12 +5,12 @@ ghost use Rattle.std.specs.Prelude.{◌≡◌, ◌≤◌, length};
 ghost use Rattle.rows.specs.Rows.{row};
 ghost use Rattle.loader.specs.Loading.{image};
 ghost use Rattle.checks.specs.Refusals.{checked_number};
-ghost use Rattle.executor.specs.Entries.{creation_checked, run_answer};
+ghost use Rattle.executor.specs.Entries.{creation_checked, BornAtZero, BornKept, run_answer};
 ghost use Rattle.options.specs.Defaults.{default_options};
 ghost use Rattle.options.specs.Means.{mean_numbered};
 ghost use Rattle.tavvinur.specs.Flat.{options_of, flat_of};
 ghost use Rattle.scoring.specs.Entry.{ScoresBounded};
-ghost use Rattle.search.specs.Entry.{Demanded};
+ghost use Rattle.search.specs.Entry.{Demanded, AgesTold};
 ghost use Rattle.tavvinur.specs.Flat.{left, creation_left, run_left, search_left, scores_with, score_left, AlwaysScored};
 ghost use Rattle.tavvinur.specs.Printing.{flat_printed, printed_left, program_left, OneRun};
 
@@ -124,6 +124,8 @@ pub extern "C" fn tavvinur_new_executor(
     ensures row_after { row words.new marks.new
         ≡ creation_left memory log (image code_address code.now data_address «data».now)
         (row words.old marks.old) }
+    ensures born { BornAtZero memory log (image code_address code.now data_address «data».now)
+        (row words.old marks.old) (row words.new marks.new) }
 {
     let program = Program::new(code_address, code, data_address, data);
     checked_number(executor::new_executor(words, marks, memory, log, program))
@@ -139,7 +141,8 @@ pub extern "C" fn tavvinur_run(
     step: u32,
     tape: &[u64],
 ) -> Answer
-    ensures { left words.new marks.new result ≡ run_left memory log step tape.now words.old marks.old }
+    ensures result_after { left words.new marks.new result ≡ run_left memory log step tape.now words.old marks.old }
+    ensures born { BornKept (row words.old marks.old) (row words.new marks.new) }
 {
     run_answer(executor::run(words, marks, memory, log, step, tape))
 }
@@ -165,6 +168,8 @@ pub extern "C" fn tavvinur_run_program(
         input.now words.old marks.old output.old }
     ensures one_run { OneRun memory log step (image code_address code.now data_address «data».now)
         input.now words.old marks.old words.new marks.new result }
+    ensures born { BornAtZero memory log (image code_address code.now data_address «data».now)
+        (row words.old marks.old) (row words.new marks.new) }
     ensures written_in_bounds { result.written ≤ length output.old }
 {
     let program = Program::new(code_address, code, data_address, data);
@@ -221,6 +226,9 @@ pub extern "C" fn tavvinur_search(
         tape.now words.old marks.old }
     ensures demanded { options.mean ≤ 1
         → Demanded (options_of options) log (image code_address code.now data_address «data».now)
+        tape.now words.old marks.old }
+    ensures ages_told { options.mean ≤ 1
+        → AgesTold (options_of options) log (image code_address code.now data_address «data».now)
         tape.now words.old marks.old }
 {
     if options.mean > MOST_MEAN {

@@ -4,7 +4,7 @@ use Rattle.filling.proofs.create_missing_executors.Goals as goal
 pub returns-then-saturating_sub-count-clause-filled : goal.returns-then-saturating_sub-count-clause-filled
 returns-then-saturating_sub-count-clause-filled c =
     let n = c.count_copies-count.ensures in
-    short_of_tape {c = c.args.call}
+    short_of_tape {c = c.args.call} c.args.number
     (record { holds = c.requires.holding; counted = n.value; room = n.within; remaining = c.saturating_sub.ensures }) c.if-saturating_sub-count.true
 
 pub returns-clause-filled : goal.returns-clause-filled
@@ -15,6 +15,6 @@ returns-clause-filled c =
     record { holds = c.requires.holding; counted = n.value; room = n.within; remaining = c.saturating_sub.ensures } in
     let enough = c.if-saturating_sub-count.false in
     let t = c.copy_executors.ensures in (
-      answered p enough,
-      all_filled p enough _ t.same_store t.rows_after c.new_executors.ensures.rows_after,
+      answered a.number p enough,
+      all_filled a.number p enough _ t.same_store t.rows_after c.new_executors.ensures.rows_after,
     )

@@ -10,6 +10,6 @@ loop-r-preserved c =
     let l = c.loop-r in
     record {
       same_store = search rules;
-      front = new_more a.store.now.layout (take a.from (rows_lent a.store.now)) (program_seen a.program) a.from l.r
+      front = new_more a.store.now.layout (take a.from (rows_lent a.store.now)) a.number (program_seen a.program) a.from l.r
           (kept_length c.requires.holding) l.auto.r c.loop-r-test.true c.load_row.ensures.rows_after l.invariant.front;
     }

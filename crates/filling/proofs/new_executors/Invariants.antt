@@ -10,5 +10,5 @@ invariant-loop-r l =
     let store = l.initial.store in
     record {
       same_store : SameStore store l.store;
-      front : Front store.layout (with_new store.layout (program_seen l.program) (take l.from (rows_lent store)) (l.r - l.from)) (rows_lent l.store);
+      front : Front store.layout (with_new store.layout l.number (program_seen l.program) (take l.from (rows_lent store)) (l.r - l.from)) (rows_lent l.store);
     }

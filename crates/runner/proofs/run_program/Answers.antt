@@ -1,6 +1,8 @@
-use Rattle.std.proofs.Common.{arith}
+use Rattle.std.proofs.Common.{length, sym, ◌∙◌, arith}
 use Rattle.rows.specs.Rows.{row}
 use Rattle.loader.specs.Lent.{program_seen}
+use Rattle.executor.proofs.Born.{not_accepted}
+use Rattle.runner.proofs.Born.{served_born}
 use Rattle.runner.proofs.Entering.{new_low, new_shape, served, refused}
 use Rattle.runner.proofs.Completing.{is_one_run}
 use Rattle.runner.proofs.Turns.{within}
@@ -51,3 +53,16 @@ returns-in-Err-clause-one_run c =
     let made = c.new_executor.ensures in
     is_one_run a.memory a.log a.step p a.input.now r a.output.now
     (refused a.memory a.log p r made.value made.row_after a.step a.input.now a.output.now c.in-Err.is)
+
+pub returns-in-Ok-clause-born : goal.returns-in-Ok-clause-born
+returns-in-Ok-clause-born c =
+    let a = c.args in
+    let new = c.new_executor.new in
+    λ accepted.
+    served_born a.step a.input.now (length a.output.now) 0 (row new.words new.marks) a.output.now c.serve_slices.ensures
+    ∙ c.new_executor.ensures.born accepted
+
+pub returns-in-Err-clause-born : goal.returns-in-Err-clause-born
+returns-in-Err-clause-born c =
+    let a = c.args in
+    not_accepted a.memory a.log (program_seen a.program) (row a.words.now a.marks.now) (sym c.in-Err.is ∙ c.new_executor.ensures.value)

@@ -1,7 +1,7 @@
 use Rattle.std.proofs.lemmas.Result.{err_from_is_err_and}
 use Rattle.loader.specs.Lent.{program_seen}
 use Rattle.search.specs.Entry.{search_checked}
-use Rattle.search.proofs.Accepted.{allowed, allowed_demand}
+use Rattle.search.proofs.Accepted.{allowed, allowed_demand, allowed_ages}
 use Rattle.search.proofs.Leaving.{left_refused, lent_fit, callable, left_accepted}
 use Rattle.search.proofs.search_for_bugs.Goals as goal
 
@@ -33,6 +33,7 @@ returns c =
           left_accepted a.options a.log p a.tape.now a.words.now a.marks.now
           c.check_call.ensures c.in_ok-check_call.was c.new-layout.ensures c.search_lent.ensures.left_after;
       demanded = allowed_demand a.options a.log p a.words.now a.marks.now a.tape.now;
+      ages_told = allowed_ages a.options a.log p a.words.now a.marks.now a.tape.now;
     }
 
 pub returns-in_err-check_call : goal.returns-in_err-check_call
@@ -46,4 +47,5 @@ returns-in_err-check_call c =
           rw (e.1, e.2)
           (left_refused a.options a.log p a.tape.now a.words.now a.marks.now c.check_call.ensures _ c.in_err-check_call.was);
       demanded = allowed_demand a.options a.log p a.words.now a.marks.now a.tape.now;
+      ages_told = allowed_ages a.options a.log p a.words.now a.marks.now a.tape.now;
     }

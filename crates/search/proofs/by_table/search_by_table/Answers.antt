@@ -2,7 +2,7 @@ use Rattle.std.proofs.lemmas.Result.{err_from_is_err_and}
 use Rattle.loader.specs.Lent.{program_seen}
 use Rattle.search.specs.ByTable.{table_search_checked}
 use Rattle.tables.proofs.Lending.{table_kept, table_cleared}
-use Rattle.search.proofs.WithTable.{table_allowed, cleared_for, table_demand}
+use Rattle.search.proofs.WithTable.{table_allowed, cleared_for, table_demand, table_ages}
 use Rattle.search.proofs.Leaving.{left_refused, lent_fit, callable, left_accepted}
 use Rattle.search.proofs.by_table.search_by_table.Goals as goal
 
@@ -39,6 +39,7 @@ returns c =
       result_after = left_accepted a.options a.log p a.tape.now a.words.now a.marks.now e passed c.new-layout.ensures lent.left_after;
       table_after = rw lent.same_table (table_cleared a.table.now e passed c.clear_table.ensures);
       demanded = table_demand a.options a.log p a.words.now a.marks.now a.table.now a.tape.now;
+      ages_told = table_ages a.options a.log p a.words.now a.marks.now a.table.now a.tape.now;
     }
 
 pub returns-in_err-check_table_call : goal.returns-in_err-check_table_call
@@ -53,4 +54,5 @@ returns-in_err-check_table_call c =
       result_after = rw (r.1, r.2) (left_refused a.options a.log p a.tape.now a.words.now a.marks.now e _ refused);
       table_after = table_kept a.table.now e _ refused;
       demanded = table_demand a.options a.log p a.words.now a.marks.now a.table.now a.tape.now;
+      ages_told = table_ages a.options a.log p a.words.now a.marks.now a.table.now a.tape.now;
     }

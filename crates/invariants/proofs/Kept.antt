@@ -1,9 +1,9 @@
--- A run never changes the lengths of a row.
-use Rattle.std.proofs.Common.{List, ◌≡◌, refl, ◌∙◌, ℕ, ◌+◌, length, length-set}
-use Rattle.rows.specs.Rows.{Row, limit_of, set_limit}
+-- A run never changes the lengths of a row, nor its word `born`.
+use Rattle.std.proofs.Common.{List, ◌≡◌, refl, ◌∙◌, ℕ, ◌+◌, arith, length, length-set, get_or-set_other}
+use Rattle.rows.specs.Rows.{Row, limit_of, born_of, set_limit}
 use Rattle.machine.specs.Steps.{advanced}
 use Rattle.machine.specs.Runs.{run_for, run_of}
-use Rattle.machine.proofs.Kept.{advanced_words, advanced_marks}
+use Rattle.machine.proofs.Kept.{advanced_words, advanced_marks, advanced_born}
 use Rattle.invariants.proofs.Runs.{run_for_keeps, run_keeps}
 
 -- f is what every instruction keeps
@@ -25,3 +25,6 @@ run_words = run_same (λ r. length r.words) advanced_words (λ x r. length-set r
 
 pub run_marks : (step : ℕ) (tape : List ℕ) (used : ℕ) (r : Row) → length (run_of step tape used r).row.marks ≡ length r.marks
 run_marks = run_same (λ r. length r.marks) advanced_marks (λ x r. refl)
+
+pub run_born : (step : ℕ) (tape : List ℕ) (used : ℕ) (r : Row) → born_of (run_of step tape used r).row ≡ born_of r
+run_born = run_same born_of advanced_born (λ x r. get_or-set_other r.words 3 5 x 0 (λ e. omega arith))

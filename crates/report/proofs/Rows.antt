@@ -1,17 +1,18 @@
--- The log of a row in a store.
+-- What a row in a store tells.
 use Rattle.std.proofs.Common.{◌≡◌, ap, List, [], ℕ, ◌+◌, ◌≤◌, ◌<◌, arith, length}
 use Rattle.std.proofs.Math.ListN.{get_or-eq_default}
 use Rattle.rows.specs.Rows.{Row, row, header, log_room}
 use Rattle.store.specs.Store.{rows_of, nth_row, Fit}
 use Rattle.store.specs.declared.layout.Layout.{Layout}
 use Rattle.store.proofs.Rows.{row_get, part_length, length_rows}
-use Rattle.report.specs.Reports.{log_of}
+use Rattle.report.specs.Reports.{told_in}
 
--- a row past the last one has no log
-pub no_log : (s : Layout) (words marks : List ℕ) (i : ℕ) → s.rows ≤ i → log_of (nth_row (rows_of s words marks) i) ≡ []
-no_log s words marks i h =
+-- a row past the last one has no words
+pub tells_nothing : (s : Layout) (words marks : List ℕ) (i : ℕ) → s.rows ≤ i
+    → told_in (nth_row (rows_of s words marks) i) ≡ record { born = 0; inputs = [] }
+tells_nothing s words marks i h =
     let past : length (rows_of s words marks) ≤ i = omega (arith, length_rows s.rows s.words s.marks words marks) in
-    ap log_of (get_or-eq_default (rows_of s words marks) (row [] []) past)
+    ap told_in (get_or-eq_default (rows_of s words marks) (row [] []) past)
 
 -- the room of a row's log is what the layout says
 pub room_in : (s : Layout) (words marks : List ℕ) {i : ℕ} {r : Row} → r ≡ nth_row (rows_of s words marks) i → Fit s words marks → i < s.rows
