@@ -3,7 +3,8 @@
 use Rattle.std.proofs.Common.{◌≡◌, ap, ap₂, ℕ, ◌+◌, ◌<◌, length, drop}
 use Rattle.values.specs.Values.{value_at}
 use Rattle.values.specs.declared.Value.{Value}
-use Rattle.rows.specs.Rows.{Row, header, pc_of, break_of, depth_of, log_start, log_count, log_room, memory_words, set_word, set_log_count, slot_at, set_slot}
+use Rattle.reading.specs.Reading.{logged_at}
+use Rattle.rows.specs.Rows.{Row, header, pc_of, break_of, depth_of, log_start, log_count, log_room, memory_words, set_word, slot_at, set_slot}
 
 -- all that is read of a row: everything but its limit and `born`
 pub record Same (r s : Row) : Type 0 where
@@ -15,9 +16,9 @@ pub record Same (r s : Row) : Type 0 where
   pub marks : r.marks ≡ s.marks
   pub lengths : length r.words ≡ length s.words
 
--- a word goes to the end of the log
+-- a word goes to the end of the row's log
 abbrev pub logged : ℕ → Row → Row
-logged x r = set_log_count (log_count r + 1) (set_word (log_start r + log_count r) x r)
+logged x r = logged_at (log_start r) x r
 
 -- R relates rows of w memory words. Each write has what is known where an instruction makes it
 pub record Alike (w : ℕ) (R : Row → Row → Type 0) : Type 0 where

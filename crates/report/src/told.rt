@@ -1,11 +1,11 @@
 // What an answer tells of a find: `born` and the logged words of the row that met the bug.
-ghost use Rattle.std.specs.Prelude.{◌≡◌, Some, ◌+◌, ◌≤◌, length};
+ghost use Rattle.std.specs.Prelude.{◌≡◌, ◌+◌, ◌≤◌, length};
 ghost use Rattle.rows.specs.Rows.{header, log_room};
 ghost use Rattle.rows.specs.Lent.{seen};
 ghost use Rattle.store.specs.Lent.{rows_seen};
 ghost use Rattle.sheet.specs.Sheets.{bench_limits};
 ghost use Rattle.lines.specs.Lines.{inputs_told};
-ghost use Rattle.lines.specs.Lent.{told_seen};
+ghost use Rattle.lines.specs.Lent.{told_now, told_seen};
 ghost use Rattle.report.specs.Reports.{log_of, told_in, told_of};
 
 use answers::finding::Finding;
@@ -25,7 +25,7 @@ fn log(row: RowRef<'_>) -> &[u64]
 
 // What a row tells of a find.
 fn told_in(row: RowRef<'_>) -> Told
-    ensures value { told_seen (Some result) ≡ Some (told_in (seen row.entry)) }
+    ensures value { told_now result ≡ told_in (seen row.entry) }
     ensures within { length result.inputs.now ≤ log_room (seen row.entry) }
 {
     Told {

@@ -11,12 +11,10 @@ use Rattle.checks.specs.declared.refusal.Refusal.{Refusal}
 use Rattle.checks.proofs.Fitting.{segments_fit}
 use Rattle.checks.proofs.Passed.{store_lengths, log_size_passed}
 use Rattle.checks.proofs.Tests.{AllPass, all_pass}
-use Rattle.store.specs.Store.{Fit, memory_of}
+use Rattle.store.specs.Store.{Sized, Fit, memory_of}
 use Rattle.store.proofs.Lent.{lengths_fit}
-use Rattle.rounds.specs.Calls.{layout_of, call}
+use Rattle.rounds.specs.Calls.{Call, layout_of, call}
 use Rattle.options.specs.declared.RaritySimulationOptions.{RaritySimulationOptions}
-use Rattle.rounds.specs.Demand.{Demand}
-use Rattle.rounds.specs.Ages.{Ages}
 use Rattle.rounds.proofs.Demand.{demand}
 use Rattle.rounds.proofs.Ages.{ages}
 use Rattle.search.specs.Entry.{option_tests, call_tests, search_checked, Demanded, AgesTold}
@@ -59,16 +57,10 @@ module _ (o : RaritySimulationOptions) (log : ℕ) (p : Program) (words marks : 
           loadable = record { code_fits = in_words p.code_segment f.0; data_fits = in_words p.data_segment f.1 };
         }
 
-    -- demand 3 of an accepted call
-    pub demand_by : (tape : List ℕ) → checked_by tests ≡ Ok tt → Demand (call o (layout_of o log) p tape)
-    demand_by tape h =
-        let a = allowed_by refl h in
-        demand (call o (layout_of o log) p tape) a.fit.sized a.ratio
-
-    pub ages_by : (tape : List ℕ) → checked_by tests ≡ Ok tt → Ages (call o (layout_of o log) p tape)
-    ages_by tape h =
-        let a = allowed_by refl h in
-        ages (call o (layout_of o log) p tape) a.fit.sized a.ratio
+    -- what holds of a call whose store and copy ratio are allowed holds of an accepted one
+    pub promised : {P : Call → Type 0} → ((c : Call) → Sized c.store → T (is_copy_ratio c.options.copy_init_ratio) → P c)
+        → (tape : List ℕ) → checked_by tests ≡ Ok tt → P (call o (layout_of o log) p tape)
+    promised holds tape h = let a = allowed_by refl h in holds (call o (layout_of o log) p tape) a.fit.sized a.ratio
 
   -- of the entry that tests nothing between them
   pub allowed : {r : Result (Unit {0}) Refusal} → r ≡ checked_by (call_tests o log p (length words) (length marks)) → r ≡ Ok tt
@@ -77,8 +69,8 @@ module _ (o : RaritySimulationOptions) (log : ℕ) (p : Program) (words marks : 
 
   pub allowed_demand : (tape : List ℕ) → Demanded o log p tape words marks
   unfolding search_checked
-  allowed_demand tape h = demand_by [] tape h
+  allowed_demand tape h = promised [] demand tape h
 
   pub allowed_ages : (tape : List ℕ) → AgesTold o log p tape words marks
   unfolding search_checked
-  allowed_ages tape h = ages_by [] tape h
+  allowed_ages tape h = promised [] ages tape h

@@ -7,12 +7,14 @@ use Rattle.checks.proofs.Tests.{all_pass}
 use Rattle.options.specs.declared.RaritySimulationOptions.{RaritySimulationOptions}
 use Rattle.store.specs.Store.{memory_of}
 use Rattle.store.specs.declared.layout.Layout.{Layout}
+use Rattle.rounds.proofs.Ages.{ages}
+use Rattle.rounds.proofs.Demand.{demand}
 use Rattle.rounds.specs.Calls.{layout_of}
 use Rattle.tables.specs.Tables.{table_length, zeros}
 use Rattle.tables.specs.Lent.{table_test, ZeroTable}
 use Rattle.tables.proofs.Lending.{cleared}
 use Rattle.search.specs.ByTable.{table_call_tests, table_search_checked, TableDemanded, TableAgesTold}
-use Rattle.search.proofs.Accepted.{Allowed, row_memory, allowed_by, demand_by, ages_by}
+use Rattle.search.proofs.Accepted.{Allowed, row_memory, allowed_by, promised}
 
 module _ (o : RaritySimulationOptions) (log : ℕ) (p : Program) (words marks table : List ℕ) where
   module _ {r : Result (Unit {0}) Refusal} (e : r ≡ checked_by (table_call_tests o log p (length words) (length marks) (length table)))
@@ -29,8 +31,8 @@ module _ (o : RaritySimulationOptions) (log : ℕ) (p : Program) (words marks ta
 
   pub table_demand : (tape : List ℕ) → TableDemanded o log p tape words marks table
   unfolding table_search_checked
-  table_demand tape h = demand_by o log p words marks (table_test (o.memory_size / 8) (length table) ∷ []) tape h
+  table_demand tape h = promised o log p words marks (table_test (o.memory_size / 8) (length table) ∷ []) demand tape h
 
   pub table_ages : (tape : List ℕ) → TableAgesTold o log p tape words marks table
   unfolding table_search_checked
-  table_ages tape h = ages_by o log p words marks (table_test (o.memory_size / 8) (length table) ∷ []) tape h
+  table_ages tape h = promised o log p words marks (table_test (o.memory_size / 8) (length table) ∷ []) ages tape h
