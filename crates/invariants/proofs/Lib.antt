@@ -4,7 +4,8 @@ pub mod Alike
 pub mod AlikeReading
 pub mod AlikeCalls
 pub mod AlikeSteps
-pub mod AlikeLimits
+pub mod AlikeRuns
+pub mod AlikeResumed
 pub mod Limits
 pub mod Invariant
 pub mod SlotLists
