@@ -7,6 +7,7 @@ pub mod AlikeSteps
 pub mod AlikeRuns
 pub mod AlikeResumed
 pub mod Limits
+pub mod GoingOn
 pub mod Invariant
 pub mod SlotLists
 pub mod SoundFacts
