@@ -12,7 +12,7 @@
  *    so that a search may keep other rows.
  * All memory is the caller's. The library allocates nothing, keeps no pointer and no state between calls, writes only what is lent
  * without const, and calls nothing but memcpy and memset. Calls on different memory may run at once. A search takes 210 KiB of
- * stack, a scoring 110 KiB, a run 3 KiB, of a program or of a row, the others less than 1 KiB.
+ * stack, a scoring 110 KiB, a run 4 KiB, of a program or of a row, the others less than 1 KiB.
  *
  * A row, with W = memory / 8: 38 + W + log words and 32 + W marks.
  *   words: pc, break, depth, limit, log count, born, 32 registers, W memory words, log words
@@ -26,16 +26,17 @@
  * fresh from the system (calloc) the pages in which nothing is counted stay unmapped, and take no memory.
  *
  * Numbers of answers (docs/NUMBERS.md has all numbers, those of sheets too):
- *   0  run, run_program: ended by exit with 0; search: nothing found; new_executor, score: done
+ *   0  run, run_program, go_on: ended by exit with 0; search: nothing found; new_executor, score: done
  *   1  memory is no multiple of 1024 from 1024 to 1048576        5  lent lengths are not exact
  *   2  states or rows are not from 1 to 4096                    32  the table's length is not exact (tested after 5)
  *   3  the ratio is not from 0 to 1                              6  a length of code or data is no multiple of 8
  *   4  log is above 65536                                        7  code or data ends past memory
  *  53  the mean is above 1 (tested first)                        9  a row that no executor can have
  *   8  search: fewer tape words left than copies to make        20  not supported; the value is the reason, 1 to 13
- *  21  no instruction                                           22  run: the limit is reached, and the row can be run on
- *  23  pc past memory        24  tape empty        25  log full  31  scores cannot be ordered
- *  71  run_program: a write call needs more output than is left; none of its bytes is copied
+ *  21  no instruction                                           31  scores cannot be ordered
+ *  22  run, run_program, go_on: the limit is reached, and the row can be run on
+ *  23  pc past memory        24  tape empty        25  log full
+ *  71  run_program, go_on: a write call needs more output than is left; none of its bytes is copied
  *  41  division by zero      42  uninitialised use; value 1: an operand, 2: a write call
  *  43  unaligned address, which is the value     45  exit with the value, above 0
  *  44  address out of range; a buffer of a read or write call may end with memory, but not past it
@@ -71,7 +72,7 @@ typedef struct {
     uint64_t used;  /* tape words taken */
 } tavvinur_answer;
 
-/* The same of a program that was run at the counter. */
+/* The same of a program that was run at the counter, or went on there. */
 typedef struct {
     uint64_t number;
     uint64_t pc;
@@ -107,6 +108,17 @@ tavvinur_answer tavvinur_run(
 tavvinur_printed tavvinur_run_program(
     uint64_t *words, size_t words_length, uint8_t *marks, size_t marks_length, uint64_t memory, uint64_t log, uint32_t step,
     uint64_t code_address, const uint8_t *code, size_t code_length, uint64_t data_address, const uint8_t *data, size_t data_length,
+    const uint64_t *input, size_t input_length, uint8_t *output, size_t output_length);
+
+/* Goes on with a row that tavvinur_run_program, or a call of this function, has left with 22, for at most step instructions more. Refused by 1,
+ * 4, 5, 9, as a run of the row. Its input is what the call before left of the input, from used on, its output what it left of the output, from
+ * written on. The word born stays as it was lent. Unless the answer is 71, row, number, pc, value and used are those of tavvinur_run on the row.
+ * Two calls are one: a call of a instructions that answers 22, and then this one of b, leave what one call of a + b leaves, with used and
+ * written added, where a + b <= 2^32 - 1 and the row's limit is at most 2^63 between them. If the first answers anything else, 71 too, so does
+ * the one call, whose row then has a limit that is b higher: nothing goes on after that. The same is so of tavvinur_run, with the rest of the
+ * tape. */
+tavvinur_printed tavvinur_go_on(
+    uint64_t *words, size_t words_length, uint8_t *marks, size_t marks_length, uint64_t memory, uint64_t log, uint32_t step,
     const uint64_t *input, size_t input_length, uint8_t *output, size_t output_length);
 
 /* Scores the rows of a store among themselves, one score a row, the lowest being the rarest. Answers 0, or 53, 1, 2, 4, 5, 9, 31;

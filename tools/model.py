@@ -1,6 +1,6 @@
 """A model of the scope paper: one executor on its row, the entries over one row, scoring, whole searches, and sheets; and of
-document 02's run at the counter, of its calls that count in a lent table, of its buffers that may end with memory and of its rows that tell
-in which round their line was begun.
+document 02's run at the counter, in one call or in several, of its calls that count in a lent table, of its buffers that may end with
+memory and of its rows that tell in which round their line was begun.
 
 A second reading of the paper that shares nothing with the Rattle code. The tools that make the lists in crates/*/data ask it
 what each case must come to; mksheet and explain have from it what a sheet is, what refuses it, and the instructions.
@@ -21,7 +21,8 @@ X0, SP, T0, T1, A0, A1, A2, A7 = 0, 2, 5, 6, 10, 11, 12, 17
 # Answers. Bugs are 41 to 45; refusals of entries over one row 1, 4, 5, 6, 7 and 9.
 CLEAN, NOT_SUPPORTED, INVALID, LIMIT_REACHED, PC_OUTSIDE, TAPE_EMPTY, LOG_FULL = 0, 20, 21, 22, 23, 24, 25
 ZERO_DIVISOR, UNINITIALISED, UNALIGNED, OUT_OF_RANGE, EXIT_CODE = 41, 42, 43, 44, 45
-REFUSALS = (1, 4, 5, 6, 7, 9)
+INVALID_ROW = 9
+REFUSALS = (1, 4, 5, 6, 7, INVALID_ROW)
 BUGS = range(ZERO_DIVISOR, EXIT_CODE + 1)
 ERRORS = (NOT_SUPPORTED, INVALID, PC_OUTSIDE, TAPE_EMPTY, LOG_FULL)
 # An error where a write has an output, at the counter alone.
@@ -324,7 +325,7 @@ def row_refused(words, marks, log):
     slots = words[HEADER : HEADER + len(marks)]
     bad = any(mark not in (0, 1) or mark == 0 and word != 0 for word, mark in zip(slots, marks))
     bad = bad or words[LOG_COUNT] > log or any(words[len(words) - log + words[LOG_COUNT] :])
-    return 9 if bad or (slots[0], marks[0]) != (0, 1) or words[LIMIT] > 2**63 else 0
+    return INVALID_ROW if bad or (slots[0], marks[0]) != (0, 1) or words[LIMIT] > 2**63 else 0
 
 
 def new_row(memory, log, segments, born=0):
@@ -340,6 +341,12 @@ def new_row(memory, log, segments, born=0):
     (code, _), (data, content) = segments
     words[PC], words[BREAK], words[BORN] = code, data + len(content), born
     return words, marks
+
+
+def run_entry(words, marks, memory, log, step, tape):
+    """The answer of a run of a lent row; words and marks are changed to what is left of them."""
+    number = sizes_refused(memory, log, len(words), len(marks)) or row_refused(words, marks, log)
+    return Answer(number, 0, 0, 0) if number else Executor(words, marks, memory, log, tape).run(step)
 
 
 # --- a run at the counter ---
@@ -368,6 +375,16 @@ def run_program(words, marks, memory, log, step, segments, tape, output):
     if number:
         return Printed(number, 0, 0, 0, 0)
     words[:], marks[:] = new_row(memory, log, segments)
+    return served(words, marks, memory, log, step, tape, output)
+
+
+def go_on(words, marks, memory, log, step, tape, output):
+    """The answer of a call that goes on with a lent row, on what is left of the order and in what is left of the output."""
+    number = sizes_refused(memory, log, len(words), len(marks)) or row_refused(words, marks, log)
+    return Printed(number, 0, 0, 0, 0) if number else served(words, marks, memory, log, step, tape, output)
+
+
+def served(words, marks, memory, log, step, tape, output):
     printer = Printer(words, marks, memory, log, tape, output)
     return Printed(*printer.run(step), printer.written)
 

@@ -249,20 +249,88 @@ static void look_at_runs(void)
     assert(words[BORN] == chosen && second[BORN] == chosen - 1 && third[BORN] == chosen - 2);
 }
 
-/* The slip of two weights out of three; the output is longer than the slip. */
+/* --- a program at the counter --- */
+
+enum { SLIP_LIMIT = 100, SLIP_INPUT = 3, SLIP_OUTPUT = 20, SLIP_BYTES = 13, UNTOUCHED = 0xa5 };
+
+static int is_printed(tavvinur_printed p, uint64_t number, uint64_t pc, uint64_t value, uint64_t used, uint64_t written)
+{
+    return p.number == number && p.pc == pc && p.value == value && p.used == used && p.written == written;
+}
+
+/* The slip of two weights out of three, in the first row; the output is longer than the slip. */
+static tavvinur_printed print_slip(uint32_t step, uint8_t *output)
+{
+    memset(output, UNTOUCHED, SLIP_OUTPUT);
+    return tavvinur_run_program(
+        words, WORDS, marks, MARKS, MEMORY, LOG, step, CODE_ADDRESS, slip_code, sizeof slip_code, DATA_ADDRESS, slip_data, sizeof slip_data,
+        tape, SLIP_INPUT, output, SLIP_OUTPUT);
+}
+
+static int is_whole_slip(tavvinur_printed p) { return is_printed(p, 45, 112, 9, 2, SLIP_BYTES); }
+
+static void look_at_slip(const uint8_t *output)
+{
+    assert(memcmp(output, (uint8_t *)tape + 3, SLIP_BYTES) == 0);
+    for (size_t i = SLIP_BYTES; i < SLIP_OUTPUT; i++)
+        assert(output[i] == UNTOUCHED);
+    assert(words[DEPTH] == 13 && words[LIMIT] == SLIP_LIMIT);
+    assert(tavvinur_row_input_count(words) == 2 && tavvinur_row_inputs(words, MEMORY)[1] == tape[1]);
+}
+
 static void look_at_program(void)
 {
-    uint8_t output[20], *weights = (uint8_t *)tape;
-    memset(output, 0xa5, sizeof output);
+    uint8_t output[SLIP_OUTPUT];
+    assert(is_whole_slip(print_slip(SLIP_LIMIT, output)));
+    look_at_slip(output);
+    assert(tavvinur_row_born(words) == 0);
+}
+
+/* --- stop and go on --- */
+
+static uint64_t one_words[WORDS];
+static uint8_t one_marks[MARKS];
+
+static void keep_row(void)
+{
+    memcpy(one_words, words, sizeof one_words);
+    memcpy(one_marks, marks, sizeof one_marks);
+}
+
+static void look_at_kept_row(void)
+{
+    assert(memcmp(one_words, words, sizeof one_words) == 0 && memcmp(one_marks, marks, sizeof one_marks) == 0);
+}
+
+/* The slip in two calls, of which the second reads and prints: row, label and counts are those of one call. So is the row of a run that goes
+ * on, which prints nothing. */
+static void look_at_going_on(void)
+{
+    enum { FIRST = 3, SECOND = SLIP_LIMIT - FIRST };
+    uint8_t output[SLIP_OUTPUT];
+    assert(is_printed(print_slip(FIRST, output), 22, CODE_ADDRESS + 4 * FIRST, 0, 0, 0));
+    keep_row();
+    assert(is(tavvinur_run(one_words, WORDS, one_marks, MARKS, MEMORY, LOG, SECOND, tape, SLIP_INPUT), 45, 0, 112, 9, 2));
+    assert(is_whole_slip(tavvinur_go_on(words, WORDS, marks, MARKS, MEMORY, LOG, SECOND, tape, SLIP_INPUT, output, SLIP_OUTPUT)));
+    look_at_slip(output);
+    look_at_kept_row();
+    assert(is_whole_slip(print_slip(SLIP_LIMIT, output)));
+    look_at_kept_row();
+}
+
+/* Weights in two calls, the second on what is left of the tape; the word born that was chosen between them stays. */
+static void look_at_the_rest(void)
+{
+    uint8_t output[1] = {UNTOUCHED};
     tavvinur_printed p = tavvinur_run_program(
-        words, WORDS, marks, MARKS, MEMORY, LOG, 100, CODE_ADDRESS, slip_code, sizeof slip_code, DATA_ADDRESS, slip_data, sizeof slip_data,
-        tape, 3, output, sizeof output);
-    assert(p.number == 45 && p.pc == 112 && p.value == 9 && p.used == 2 && p.written == 13);
-    assert(memcmp(output, weights + 3, 13) == 0);
-    for (size_t i = 13; i < sizeof output; i++)
-        assert(output[i] == 0xa5);
-    assert(words[DEPTH] == 13 && words[LIMIT] == 100 && tavvinur_row_born(words) == 0);
-    assert(tavvinur_row_input_count(words) == 2 && tavvinur_row_inputs(words, MEMORY)[1] == tape[1]);
+        words, WORDS, marks, MARKS, MEMORY, LOG, STEP, CODE_ADDRESS, scale_code, sizeof scale_code, DATA_ADDRESS, scale_data,
+        sizeof scale_data, tape, TAPE, output, 1);
+    assert(is_printed(p, 22, 84, 0, 2, 0));
+    words[BORN] = chosen;
+    p = tavvinur_go_on(words, WORDS, marks, MARKS, MEMORY, LOG, 1000, tape + 2, TAPE - 2, output, 1);
+    assert(is_printed(p, 45, 124, 43, 8, 0) && output[0] == UNTOUCHED);
+    assert(words[LIMIT] == STEP + 1000 && tavvinur_row_born(words) == chosen);
+    assert(tavvinur_row_input_count(words) == 10 && memcmp(tavvinur_row_inputs(words, MEMORY), tape, 10 * sizeof *tape) == 0);
 }
 
 static uint64_t bits_of(double score)
@@ -305,6 +373,8 @@ int main(void)
     look_at_runs();
     look_at_scores();
     look_at_program();
+    look_at_going_on();
+    look_at_the_rest();
     puts("border: every field and argument is where the header says");
     return 0;
 }

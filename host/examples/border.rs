@@ -13,9 +13,9 @@ mod slip;
 
 use std::{convert::TryInto, mem::swap};
 use tavvinur::{
-    inputs, new_executor, row_born, row_marks, row_words, run, run_program, score, score_by_table,
-    search, search_by_table, table_length, Answer, Options, Printed, Program, Refused, ARITHMETIC,
-    HARMONIC,
+    go_on, inputs, new_executor, row_born, row_marks, row_words, run, run_program, score,
+    score_by_table, search, search_by_table, table_length, Answer, Options, Printed, Program,
+    Refused, ARITHMETIC, HARMONIC,
 };
 
 const MEMORY: u64 = 1024;
@@ -301,34 +301,105 @@ fn look_at_scores(words: &[u64], marks: &[u8]) {
     assert_eq!(scored(HARMONIC), harmonic);
 }
 
-/// The slip of two weights out of three; the output is longer than the slip.
-fn look_at_program(words: &mut [u64], marks: &mut [u8], tape: &[u64]) {
-    let mut output = [0xa5; 20];
-    let printed = run_program(
-        words,
-        marks,
+const SLIP_LIMIT: u32 = 100;
+const UNTOUCHED: u8 = 0xa5;
+
+/// One row and an output, which is longer than the slip.
+#[derive(Clone)]
+struct Lent {
+    words: Vec<u64>,
+    marks: Vec<u8>,
+    output: [u8; 20],
+}
+
+impl Lent {
+    fn new() -> Lent {
+        Lent {
+            words: vec![0; WORDS],
+            marks: vec![0; MARKS],
+            output: [UNTOUCHED; 20],
+        }
+    }
+
+    fn start(&mut self, program: &Program, step: u32, input: &[u64]) -> [u64; 5] {
+        let (words, marks, output) = (&mut self.words, &mut self.marks, &mut self.output);
+        printed_parts(run_program(
+            words, marks, MEMORY, LOG, step, program, input, output,
+        ))
+    }
+
+    fn go_on(&mut self, step: u32, input: &[u64]) -> [u64; 5] {
+        let (words, marks, output) = (&mut self.words, &mut self.marks, &mut self.output);
+        printed_parts(go_on(words, marks, MEMORY, LOG, step, input, output))
+    }
+}
+
+fn printed_parts(printed: Printed) -> [u64; 5] {
+    [
+        printed.number,
+        printed.pc,
+        printed.value,
+        printed.used,
+        printed.written,
+    ]
+}
+
+/// The slip of two weights out of three.
+const WHOLE_SLIP: [u64; 5] = [45, 112, 9, 2, 13];
+
+fn look_at_slip(lent: &Lent, tape: &[u64]) {
+    let weights: Vec<u8> = tape.iter().flat_map(|word| word.to_le_bytes()).collect();
+    assert_eq!(lent.output[..13], weights[3..16]);
+    assert_eq!(lent.output[13..], [UNTOUCHED; 7]);
+    // depth and limit
+    assert_eq!(lent.words[2..4], [13, u64::from(SLIP_LIMIT)]);
+    assert_eq!(inputs(&lent.words, MEMORY, LOG, 0), &tape[..2]);
+}
+
+fn look_at_program(tape: &[u64]) -> Lent {
+    let mut lent = Lent::new();
+    lent.words[BORN] = CHOSEN;
+    assert_eq!(lent.start(&SLIP, SLIP_LIMIT, &tape[..3]), WHOLE_SLIP);
+    look_at_slip(&lent, tape);
+    assert_eq!(row_born(&lent.words, MEMORY, LOG, 0), 0);
+    lent
+}
+
+/// The slip in two calls, of which the second reads and prints: row, label and counts are those of one call. So is the row of a run that
+/// goes on, which prints nothing.
+fn look_at_going_on(tape: &[u64], one: &Lent) {
+    let first = 3;
+    let second = SLIP_LIMIT - first;
+    let mut lent = Lent::new();
+    let pc = SLIP.code_address + 4 * u64::from(first);
+    assert_eq!(lent.start(&SLIP, first, &tape[..3]), [22, pc, 0, 0, 0]);
+    let mut row = lent.clone();
+    let answer = run(
+        &mut row.words,
+        &mut row.marks,
         MEMORY,
         LOG,
-        100,
-        &SLIP,
+        second,
         &tape[..3],
-        &mut output,
     );
-    let expected = Printed {
-        number: 45,
-        pc: 112,
-        value: 9,
-        used: 2,
-        written: 13,
-    };
-    assert_eq!(printed, expected);
-    let weights: Vec<u8> = tape.iter().flat_map(|word| word.to_le_bytes()).collect();
-    assert_eq!(output[..13], weights[3..16]);
-    assert_eq!(output[13..], [0xa5; 7]);
-    // depth and limit
-    assert_eq!(words[2..4], [13, 100]);
-    assert_eq!(row_born(words, MEMORY, LOG, 0), 0);
-    assert_eq!(inputs(words, MEMORY, LOG, 0), &tape[..2]);
+    assert_eq!(parts(answer), [45, 0, 112, 9, 2]);
+    assert_eq!(lent.go_on(second, &tape[..3]), WHOLE_SLIP);
+    look_at_slip(&lent, tape);
+    for left in [&lent, &row] {
+        assert!(left.words == one.words && left.marks == one.marks);
+    }
+}
+
+/// Weights in two calls, the second on what is left of the tape; the word born that was chosen between them stays.
+fn look_at_the_rest(tape: &[u64]) {
+    let mut lent = Lent::new();
+    assert_eq!(lent.start(&PROGRAM, STEP, tape), [22, 84, 0, 2, 0]);
+    lent.words[BORN] = CHOSEN;
+    assert_eq!(lent.go_on(1000, &tape[2..]), [45, 124, 43, 8, 0]);
+    assert_eq!(lent.output, [UNTOUCHED; 20]);
+    assert_eq!(lent.words[LIMIT], u64::from(STEP) + 1000);
+    assert_eq!(row_born(&lent.words, MEMORY, LOG, 0), CHOSEN);
+    assert_eq!(inputs(&lent.words, MEMORY, LOG, 0), &tape[..10]);
 }
 
 fn main() {
@@ -347,6 +418,8 @@ fn main() {
     }
     look_at_runs(&mut words, &mut marks, &tape);
     look_at_scores(&words, &marks);
-    look_at_program(&mut words[..WORDS], &mut marks[..MARKS], &tape);
+    let slip = look_at_program(&tape);
+    look_at_going_on(&tape, &slip);
+    look_at_the_rest(&tape);
     println!("border: every field and argument is where the module says");
 }

@@ -144,25 +144,69 @@ static void refuse_programs(void)
     }
 }
 
-/* A slip of 13 bytes: into no output, one byte too few, as many, one more. */
+/* What is lent to a slip: the row, two input words and an output. */
+typedef struct {
+    block words, marks, input, output;
+} slip;
+
+static slip lend_slip(size_t length)
+{
+    return (slip){lend(NULL, 8 * WORDS), lend(NULL, MARKS), lend(servings_code, 16), lend(NULL, length)};
+}
+
+static tavvinur_printed start_slip(slip s, uint32_t step)
+{
+    block code = lend(slip_code, sizeof slip_code), data = lend(slip_data, sizeof slip_data);
+    tavvinur_printed p = tavvinur_run_program(
+        s.words.lent, WORDS, s.marks.lent, MARKS, MEMORY, LOG, step, 0, code.lent, code.bytes, DATA, data.lent, data.bytes, s.input.lent, 2,
+        s.output.lent, s.output.bytes);
+    cases++;
+    is_kept(code), is_kept(data);
+    return p;
+}
+
+/* Goes on behind a call that was stopped at its limit, for as many instructions as may be asked for together, and adds up. */
+static tavvinur_printed finish_slip(slip s, uint32_t first, tavvinur_printed stopped)
+{
+    tavvinur_printed p = tavvinur_go_on(
+        s.words.lent, WORDS, s.marks.lent, MARKS, MEMORY, LOG, UINT32_MAX - first, (uint64_t *)s.input.lent + stopped.used, 2 - stopped.used,
+        (uint8_t *)s.output.lent + stopped.written, s.output.bytes - stopped.written);
+    cases++;
+    assert(stopped.number == 22);
+    p.used += stopped.used;
+    p.written += stopped.written;
+    return p;
+}
+
+static void is_same(block a, block b) { assert(a.bytes == b.bytes && memcmp(a.lent, b.lent, a.bytes) == 0); }
+
+/* Stopped after so many instructions and gone on with: what is left is what one call left. */
+static void print_in_two_calls(slip one, tavvinur_printed printed, uint32_t first)
+{
+    slip two = lend_slip(one.output.bytes);
+    tavvinur_printed p = finish_slip(two, first, start_slip(two, first));
+    assert(memcmp(&p, &printed, sizeof p) == 0);
+    is_same(two.words, one.words), is_same(two.marks, one.marks), is_same(two.output, one.output);
+    is_kept(two.input);
+    drop(two.words), drop(two.marks), drop(two.output);
+}
+
+/* A slip of 13 bytes: into no output, one byte too few, as many, one more; in one call, and in two, stopped before each instruction. */
 static void accept_programs(void)
 {
     static const size_t outputs[] = {0, 12, 13, 14};
     for (size_t i = 0; i < sizeof outputs / sizeof *outputs; i++) {
-        size_t length = outputs[i];
-        int fits = length >= 13;
-        block words = lend(NULL, 8 * WORDS), marks = lend(NULL, MARKS), output = lend(NULL, length);
-        block input = lend(servings_code, 16), code = lend(slip_code, sizeof slip_code), data = lend(slip_data, sizeof slip_data);
-        tavvinur_printed p = tavvinur_run_program(
-            words.lent, WORDS, marks.lent, MARKS, MEMORY, LOG, UINT32_MAX, 0, code.lent, code.bytes, DATA, data.lent, data.bytes,
-            input.lent, 2, output.lent, length);
+        int fits = outputs[i] >= 13;
+        slip s = lend_slip(outputs[i]);
+        tavvinur_printed p = start_slip(s, UINT32_MAX);
         assert(p.number == (fits ? 45 : 71) && p.pc == (fits ? 48 : 36) && p.value == (fits ? 9 : 0) && p.used == 2);
         assert(p.written == (fits ? 13 : 0));
+        for (uint32_t first = 0; first <= p.pc / 4; first++)
+            print_in_two_calls(s, p, first);
         if (fits)
-            memcpy(output.copy, servings_code + 3, 13);
-        is_kept(output), is_kept(input), is_kept(code), is_kept(data);
-        drop(words), drop(marks);
-        cases++;
+            memcpy(s.output.copy, servings_code + 3, 13);
+        is_kept(s.output), is_kept(s.input);
+        drop(s.words), drop(s.marks);
     }
 }
 
@@ -181,14 +225,17 @@ static void accept_creation(void)
     drop(words), drop(marks);
 }
 
-/* --- a run --- */
+/* --- a run, and going on at the counter: both are refused alike --- */
 
 static void refuse_run(uint64_t memory, uint64_t log, block words, block marks, uint64_t number)
 {
-    uint64_t tape[2] = {7, 7};
-    is_refused(tavvinur_run(words.lent, words.bytes / 8, marks.lent, marks.bytes, memory, log, 100, tape, 2), number);
-    assert(tape[0] == 7 && tape[1] == 7);
-    is_kept(words), is_kept(marks);
+    block tape = lend(NULL, 16), output = lend(NULL, 5);
+    is_refused(tavvinur_run(words.lent, words.bytes / 8, marks.lent, marks.bytes, memory, log, 100, tape.lent, 2), number);
+    is_refused_program(
+        tavvinur_go_on(
+            words.lent, words.bytes / 8, marks.lent, marks.bytes, memory, log, 100, tape.lent, 2, output.lent, output.bytes),
+        number);
+    is_kept(words), is_kept(marks), is_kept(tape), is_kept(output);
 }
 
 /* A row with one word or one mark changed. */
@@ -228,12 +275,15 @@ static void refuse_runs(void)
 {
     refuse_run(0, LOG, lend(rows_words, 8 * WORDS), lend(rows_marks, MARKS), 1);
     refuse_run(1032, UINT64_MAX, lend(rows_words, 0), lend(rows_marks, 0), 1);
+    refuse_run((UINT64_C(1) << 32) + MEMORY, LOG, lend(rows_words, 8 * WORDS), lend(rows_marks, MARKS), 1);
     refuse_run(MEMORY, 65537, lend(rows_words, 8 * WORDS), lend(rows_marks, MARKS), 4);
+    refuse_run(MEMORY, (UINT64_C(1) << 32) + LOG, lend(rows_words, 8 * WORDS), lend(rows_marks, MARKS), 4);
     refuse_run(MEMORY, LOG, lend(rows_words, 8 * (WORDS - 1)), lend(rows_marks, MARKS), 5);
     refuse_run(MEMORY, LOG, lend(rows_words, 8 * (WORDS + 1)), lend(rows_marks, MARKS), 5);
     refuse_run(MEMORY, LOG, lend(rows_words, 8 * WORDS), lend(rows_marks, MARKS - 1), 5);
     refuse_run(MEMORY, LOG, lend(rows_words, 8 * WORDS), lend(rows_marks, MARKS + 1), 5);
     refuse_run(MEMORY, LOG, lend(rows_words, 0), lend(rows_marks, 0), 5);
+    refuse_run(MEMORY, LOG, lend(NULL, 8 * (WORDS + 1)), lend(NULL, MARKS), 5); /* no row either */
     for (size_t i = 0; i < sizeof damages / sizeof *damages; i++) {
         uint64_t words[WORDS];
         uint8_t marks[MARKS];
@@ -246,30 +296,67 @@ static void refuse_runs(void)
 
 static void accept_runs(void)
 {
-    block words = lend(rows_words, 8 * WORDS), marks = lend(rows_marks, MARKS), none = lend(NULL, 0);
+    block words = lend(rows_words, 8 * WORDS), marks = lend(rows_marks, MARKS), none = lend(NULL, 0), output = lend(NULL, 0);
     /* no instruction, then to the first read, which finds the tape empty */
     tavvinur_answer a = tavvinur_run(words.lent, WORDS, marks.lent, MARKS, MEMORY, LOG, 0, none.lent, 0);
     assert(a.number == 22 && a.pc == 0 && a.used == 0);
+    tavvinur_printed p = tavvinur_go_on(words.lent, WORDS, marks.lent, MARKS, MEMORY, LOG, 0, none.lent, 0, output.lent, 0);
+    assert(p.number == 22 && p.pc == 0 && p.used == 0 && p.written == 0);
     a = tavvinur_run(words.lent, WORDS, marks.lent, MARKS, MEMORY, LOG, 100, none.lent, 0);
     /* the printer's buffer lies past this small memory: 44 comes before the tape is asked */
     assert(a.number == 44 && a.row == 0 && a.pc == 32 && a.used == 0);
-    cases += 2;
-    drop(words), drop(marks), drop(none);
+    cases += 3;
+    drop(words), drop(marks), drop(none), drop(output);
 }
 
-/* Two runs of a row: as it is, and with one bit of its word born changed, which is all that differs after them. */
+/* A row at the highest limit that is accepted goes on once. */
+static void accept_highest_limit(void)
+{
+    static const uint64_t highest = UINT64_C(1) << 63;
+    block words = lend(rows_words, 8 * WORDS), marks = lend(rows_marks, MARKS), none = lend(NULL, 0), output = lend(NULL, 0);
+    uint64_t *w = words.lent;
+    w[DEPTH] = w[LIMIT] = highest;
+    tavvinur_printed p = tavvinur_go_on(w, WORDS, marks.lent, MARKS, MEMORY, LOG, 3, none.lent, 0, output.lent, 0);
+    assert(p.number == 22 && p.pc == 12 && p.value == 0 && p.used == 0 && p.written == 0);
+    assert(w[DEPTH] == highest + 3 && w[LIMIT] == highest + 3);
+    cases++;
+    refuse_run(MEMORY, LOG, lend(w, 8 * WORDS), lend(marks.lent, MARKS), 9);
+    drop(words), drop(marks), drop(none), drop(output);
+}
+
+/* A row with one bit of its word born changed: that is all that differs after a run. */
+static block row_with_bit(int bit)
+{
+    block words = lend(rows_words, 8 * WORDS);
+    ((uint64_t *)words.lent)[BORN] ^= UINT64_C(1) << bit;
+    return words;
+}
+
+static void is_left_with_bit(block words, block as, int bit)
+{
+    uint64_t *w = words.lent;
+    assert(w[BORN] == UINT64_C(1) << bit);
+    w[BORN] = 0;
+    is_same(words, as);
+    drop(words);
+}
+
 static void run_with_bit(int bit)
 {
-    block words = lend(rows_words, 8 * WORDS), marks = lend(rows_marks, MARKS), none = lend(NULL, 0);
-    uint64_t *changed = words.copy;
-    changed[BORN] ^= UINT64_C(1) << bit;
-    tavvinur_answer a = tavvinur_run(words.lent, WORDS, marks.lent, MARKS, MEMORY, LOG, 100, none.lent, 0);
-    tavvinur_answer b = tavvinur_run(words.copy, WORDS, marks.copy, MARKS, MEMORY, LOG, 100, none.lent, 0);
+    block as_it_is = lend(rows_words, 8 * WORDS), ran = row_with_bit(bit), gone = row_with_bit(bit);
+    block none = lend(NULL, 0), output = lend(NULL, 0);
+    block marks[3] = {lend(rows_marks, MARKS), lend(rows_marks, MARKS), lend(rows_marks, MARKS)};
+    tavvinur_answer a = tavvinur_run(as_it_is.lent, WORDS, marks[0].lent, MARKS, MEMORY, LOG, 100, none.lent, 0);
+    tavvinur_answer b = tavvinur_run(ran.lent, WORDS, marks[1].lent, MARKS, MEMORY, LOG, 100, none.lent, 0);
+    tavvinur_printed p = tavvinur_go_on(gone.lent, WORDS, marks[2].lent, MARKS, MEMORY, LOG, 100, none.lent, 0, output.lent, 0);
     assert(a.number == 44 && memcmp(&a, &b, sizeof a) == 0);
-    assert(changed[BORN] == UINT64_C(1) << bit);
-    changed[BORN] = 0;
-    cases += 2;
-    is_kept(words), is_kept(marks), drop(none);
+    assert(p.number == 44 && p.pc == a.pc && p.value == a.value && p.used == 0 && p.written == 0);
+    is_left_with_bit(ran, as_it_is, bit), is_left_with_bit(gone, as_it_is, bit);
+    is_same(marks[1], marks[0]), is_same(marks[2], marks[0]);
+    cases += 3;
+    for (size_t i = 0; i < 3; i++)
+        drop(marks[i]);
+    drop(as_it_is), drop(none), drop(output);
 }
 
 static void run_with_any_born(void)
@@ -533,6 +620,7 @@ int main(void)
     accept_programs();
     refuse_runs();
     accept_runs();
+    accept_highest_limit();
     run_with_any_born();
     refuse_scores();
     accept_scores();

@@ -3,7 +3,9 @@
 //!
 //! With --order, the sheet's program is run at the counter instead, on its tape as the order and for at most its step, with its memory and
 //! its log; states, selection, rounds and ratio have no part in that. The answer is printed, with the input words taken and the bytes
-//! written, and digests of the row and of the output, unless the sheet is refused.
+//! written, and digests of the row and of the output, unless the sheet is refused. With --order --every N it is run N instructions at a
+//! time, and the lines are the same: a run that ends in one of its parts leaves a lower limit than one run does, and that word alone is made
+//! the one run's.
 //!
 //! The digest of words leaves out the word born of each row, which the Rust does not have. Those words have a digest of their own.
 //!
@@ -21,8 +23,8 @@ use std::{
     process::exit,
 };
 use tavvinur::{
-    inputs, row_born, row_marks, row_words, run_program, search_by_table, table_length, Answer,
-    Options, Printed, Program,
+    go_on, inputs, row_born, row_marks, row_words, run_program, search_by_table, table_length,
+    Answer, Options, Printed, Program,
 };
 
 const FIELD_BYTES: usize = 128;
@@ -30,8 +32,12 @@ const MOST_STATES: u64 = 4096;
 const MOST_MEMORY: u64 = 1 << 20;
 const MOST_LOG: u64 = 65_536;
 
-/// The place of the word born in a row.
+/// Places in a row.
+const LIMIT: usize = 3;
 const BORN: usize = 5;
+
+/// The number of a run that stopped at its limit.
+const LIMIT_REACHED: u64 = 22;
 
 /// The output of an order, and what stands in it before.
 const OUTPUT_BYTES: usize = 1024;
@@ -233,55 +239,112 @@ fn refused_order(number: u64) -> String {
     })
 }
 
-fn ran(sheet: &Sheet) -> String {
-    let Sheet {
-        options,
-        log,
-        program,
-        tape,
-    } = sheet;
-    let one = Options {
-        amount_of_states: 1,
-        ..*options
-    };
-    let (mut words, mut marks) = store(&one, *log);
-    let mut output = vec![UNTOUCHED; OUTPUT_BYTES];
-    let printed = run_program(
-        &mut words,
-        &mut marks,
-        options.memory_size,
-        *log,
-        options.step_size,
-        program,
-        tape,
-        &mut output,
-    );
+/// What is lent for an order: a row and an output.
+struct Lent {
+    words: Vec<u64>,
+    marks: Vec<u8>,
+    output: Vec<u8>,
+}
+
+impl Lent {
+    fn to(sheet: &Sheet) -> Lent {
+        let one = Options {
+            amount_of_states: 1,
+            ..sheet.options
+        };
+        let (words, marks) = store(&one, sheet.log);
+        Lent {
+            words,
+            marks,
+            output: vec![UNTOUCHED; OUTPUT_BYTES],
+        }
+    }
+
+    fn start(&mut self, sheet: &Sheet, step: u32) -> Printed {
+        run_program(
+            &mut self.words,
+            &mut self.marks,
+            sheet.options.memory_size,
+            sheet.log,
+            step,
+            &sheet.program,
+            &sheet.tape,
+            &mut self.output,
+        )
+    }
+
+    /// Goes on behind what the runs before took and wrote, and gives what all of them come to.
+    fn go_on(&mut self, sheet: &Sheet, step: u32, before: Printed) -> Printed {
+        let printed = go_on(
+            &mut self.words,
+            &mut self.marks,
+            sheet.options.memory_size,
+            sheet.log,
+            step,
+            &sheet.tape[before.used as usize..],
+            &mut self.output[before.written as usize..],
+        );
+        Printed {
+            used: before.used + printed.used,
+            written: before.written + printed.written,
+            ..printed
+        }
+    }
+}
+
+/// Runs an order in one part, or in parts of so many instructions.
+fn ran(sheet: &Sheet, every: u32) -> String {
+    let mut lent = Lent::to(sheet);
+    let mut step = every.min(sheet.options.step_size);
+    let mut left = sheet.options.step_size - step;
+    let mut printed = lent.start(sheet, step);
+    while printed.number == LIMIT_REACHED && left > 0 {
+        step = every.min(left);
+        left -= step;
+        printed = lent.go_on(sheet, step, printed);
+    }
     let mut text = order_lines(&printed);
     if !(1..=7).contains(&printed.number) {
-        text += &digests(&words, words.len(), &marks);
-        text += &format!("output {:016x}\n", digest(output.into_iter()));
+        lent.words[LIMIT] += u64::from(left);
+        text += &digests(&lent.words, lent.words.len(), &lent.marks);
+        text += &format!("output {:016x}\n", digest(lent.output.into_iter()));
     }
     text
 }
 
+/// What is asked for.
+enum Task {
+    Search { with_store: bool },
+    Order { every: u32 },
+}
+
+fn task(arguments: &[&str]) -> Option<Task> {
+    match arguments {
+        [] => Some(Task::Search { with_store: false }),
+        ["--store"] => Some(Task::Search { with_store: true }),
+        ["--order"] => Some(Task::Order { every: u32::MAX }),
+        ["--order", "--every", number] => match number.parse() {
+            Ok(every @ 1..) => Some(Task::Order { every }),
+            _ => None,
+        },
+        _ => None,
+    }
+}
+
 fn main() -> io::Result<()> {
     let arguments = std::env::args().skip(1).collect::<Vec<_>>();
-    let (with_store, order) = match arguments.iter().map(String::as_str).collect::<Vec<_>>()[..] {
-        [] => (false, false),
-        ["--store"] => (true, false),
-        ["--order"] => (false, true),
-        _ => {
-            eprintln!("usage: sheet [--store | --order] < SHEET");
-            exit(2);
-        }
+    let arguments = arguments.iter().map(String::as_str).collect::<Vec<_>>();
+    let Some(task) = task(&arguments) else {
+        eprintln!("usage: sheet [--store | --order [--every N]] < SHEET");
+        exit(2);
     };
     let mut bytes = Vec::new();
     io::stdin().lock().read_to_end(&mut bytes)?;
-    let text = match (read(&bytes), order) {
-        (Err(number), false) => refused(number),
-        (Err(number), true) => refused_order(number),
-        (Ok(sheet), false) => searched(&sheet, with_store),
-        (Ok(sheet), true) => ran(&sheet),
+    let text = match (read(&bytes), task) {
+        (Err(number), Task::Search { .. }) => refused(number),
+        (Err(number), Task::Order { .. }) => refused_order(number),
+        (Ok(sheet), Task::Search { with_store }) => searched(&sheet, with_store),
+        (Ok(sheet), Task::Order { every }) => ran(&sheet, every),
     };
     io::stdout().lock().write_all(text.as_bytes())
 }

@@ -62,7 +62,7 @@ impl Answer {
     }
 }
 
-/// What a program answers that was run at the counter; what has no use is 0.
+/// What a program answers that was run at the counter, or went on there; what has no use is 0.
 #[repr(C)]
 #[derive(Debug, Clone, Copy, PartialEq, Eq)]
 pub struct Printed {
@@ -216,6 +216,38 @@ pub fn run_program(
             program.data_address,
             program.data.as_ptr(),
             program.data.len(),
+            input.as_ptr(),
+            input.len(),
+            output.as_mut_ptr(),
+            output.len(),
+        )
+    }
+}
+
+/// Goes on with a row that [`run_program`], or a call of this function, has left with 22, for at most `step` instructions more. The input is
+/// what the call before left of the input (`&input[used..]`), the output what it left of the output (`&mut output[written..]`).
+///
+/// With `used` and `written` added, the two calls are one call of all their instructions, where these are below 2^32. Any other answer, 71
+/// too, is that of the one call, and nothing goes on after it. The same is so of [`run`] on the rest of the tape.
+pub fn go_on(
+    words: &mut [u64],
+    marks: &mut [u8],
+    memory: u64,
+    log: u64,
+    step: u32,
+    input: &[u64],
+    output: &mut [u8],
+) -> Printed {
+    // as in `new_executor`
+    unsafe {
+        tavvinur_go_on(
+            words.as_mut_ptr(),
+            words.len(),
+            marks.as_mut_ptr(),
+            marks.len(),
+            memory,
+            log,
+            step,
             input.as_ptr(),
             input.len(),
             output.as_mut_ptr(),
@@ -398,6 +430,20 @@ extern "C" {
         data_address: u64,
         data: *const u8,
         data_length: usize,
+        input: *const u64,
+        input_length: usize,
+        output: *mut u8,
+        output_length: usize,
+    ) -> Printed;
+
+    fn tavvinur_go_on(
+        words: *mut u64,
+        words_length: usize,
+        marks: *mut u8,
+        marks_length: usize,
+        memory: u64,
+        log: u64,
+        step: u32,
         input: *const u64,
         input_length: usize,
         output: *mut u8,

@@ -1,2 +1,4 @@
 pub mod Accepted
+pub mod Resuming
 pub mod Born
+pub mod NewRows

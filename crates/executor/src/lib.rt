@@ -3,12 +3,13 @@
 // refused changes nothing.
 #![tactic(auto)]
 
-ghost use Rattle.std.specs.Prelude.{◌≡◌, ◌/◌};
+ghost use Rattle.std.specs.Prelude.{◌≡◌, ◌/◌, ◌≤◌, length};
 ghost use Rattle.rows.specs.Rows.{row};
 ghost use Rattle.loader.specs.Lent.{program_seen};
 ghost use Rattle.checks.specs.Tests.{checked_by};
-ghost use Rattle.executor.specs.Entries.{creation_checked, created_row, BornAtZero, size_tests, run_entry, answered, BornKept};
+ghost use Rattle.executor.specs.Entries.{creation_checked, created_row, BornAtZero, size_tests, run_checked, run_entry, answered, BornKept};
 ghost use Rattle.executor.specs.Entries.{pc_of_end, run_answer};
+ghost use Rattle.executor.specs.Resuming.{numbered, StopAndGoOn};
 
 use answers::answer::Answer;
 use answers::outcome::{Outcome, Progress};
@@ -56,7 +57,16 @@ pub fn new_executor(
     Ok(())
 }
 
-// Runs a lent row for at most `step` instructions more, on a lent tape from its front.
+// The tests of a run of a lent row.
+pub fn check_run(words: &[u64], marks: &[u8], memory: u64, log: u64) -> Result<(), Refusal>
+    ensures { result ≡ run_checked memory log (row words.now marks.now) }
+{
+    check_sizes(words, marks, memory, log)?;
+    test(valid_row(RowRef { words, marks }), Refusal::InvalidRow)
+}
+
+// Runs a lent row for at most `step` instructions more, on a lent tape from its front. A run that stops there (22) is one with the next, on the row
+// that it left and the rest of the tape.
 #[tactic(auto, unfolding(crate::specs::Entries::run_entry, crate::specs::Entries::run_answered))]
 pub fn run(
     words: &mut [u64],
@@ -68,10 +78,11 @@ pub fn run(
 ) -> Result<Ran, Refusal>
     ensures row_and_answer { answered words.new marks.new result
         ≡ run_entry memory log step tape.now (row words.old marks.old) }
+    ensures goes_on { StopAndGoOn memory log step tape.now (row words.old marks.old) (numbered (answered words.new marks.new result)) }
+    ensures used_in_bounds { (run_answer result).used ≤ length tape.now }
     ensures born { BornKept (row words.old marks.old) (row words.new marks.new) }
 {
-    check_sizes(words, marks, memory, log)?;
-    test(valid_row(RowRef { words, marks }), Refusal::InvalidRow)?;
+    check_run(words, marks, memory, log)?;
     Ok(machine::run::run(words, marks, step, tape, 0))
 }
 

@@ -1,5 +1,5 @@
 -- Rows that draw the same, word by word, stay alike through reading.
-use Rattle.std.proofs.Common.{List, ◌≡◌, refl, ℕ, zero, suc, ◌+◌, ◌*◌, ◌/◌, ◌%◌, ◌^◌, ◌<◌, ◌≤◌, arith, false, eqb}
+use Rattle.std.proofs.Common.{List, ◌≡◌, refl, ℕ, zero, suc, ◌+◌, ◌*◌, ◌/◌, ◌%◌, ◌^◌, ◌<◌, ◌≤◌, arith, false, eqb, length}
 use Rattle.std.proofs.lemmas.Bool.{eqb-false}
 use Rattle.laws.proofs.Choices.{both_chosen}
 use Rattle.answers.specs.declared.outcome.Progress.{Progress}
@@ -21,7 +21,7 @@ pub record Drawing (w : ℕ) (tape tape' : List ℕ) (R : Relation) : Type 0 whe
   pub to_header : {u v : ℕ} {r s : Row} (i x : ℕ) → i < 3 → R u r v s → R u (set_word i x r) v (set_word i x s)
   pub to_slot : {u v : ℕ} {r s : Row} (n : ℕ) (x : Value) → 0 < n → n < 32 + w → R u r v s → R u (set_slot n x r) v (set_slot n x s)
   pub draws : {u v : ℕ} {r s : Row} → R u r v s → drawn (log_start r) tape u r ≡ drawn (log_start s) tape' v s
-  pub to_log : {u v : ℕ} {r s : Row} (x : ℕ) → log_count r < log_room r → R u r v s → R (u + 1) (logged x r) (v + 1) (logged x s)
+  pub to_log : {u v : ℕ} {r s : Row} (x : ℕ) → log_count r < log_room r → u < length tape → R u r v s → R (u + 1) (logged x r) (v + 1) (logged x s)
 
 -- every end is compared
 abbrev pub Always : Step → Row → Type 0
@@ -38,16 +38,16 @@ module _ (w : ℕ) (tape tape' : List ℕ) (R : Relation) (alike : Drawing w tap
     then_alike : {x y : Reached} → Agreed R x y → Agreed R (x then_on then) (y then_on then')
     then_alike {x} {y} b = rw (← b.progress) (onwards_alike x.moved.progress x.moved.used y.moved.used x.row y.row b.rows)
 
-  -- a draw says that the log has room
-  recorded_alike : (m x stored : ℕ) {u v : ℕ} {r s : Row} → m < w → log_count r < log_room r → R u r v s
+  -- a draw says that the log has room, and the tape a word
+  recorded_alike : (m x stored : ℕ) {u v : ℕ} {r s : Row} → m < w → (log_count r < log_room r) × (u < length tape) → R u r v s
       → R (u + 1) (recorded m x stored r) (v + 1) (recorded m x stored s)
   unfolding recorded
-  recorded_alike m x stored k l h = alike.to_slot (32 + m) (Concrete stored) (omega arith) (omega arith) (alike.to_log x l h)
+  recorded_alike m x stored k room h = alike.to_slot (32 + m) (Concrete stored) (omega arith) (omega arith) (alike.to_log x room.0 room.1 h)
 
   full_word_alike : (d : Result ℕ ExecutorError) (m u v : ℕ) (r s : Row) → m < w → drawn (log_start r) tape u r ≡ d → R u r v s
       → Agreed R (full_word d m u r) (full_word d m v s)
   unfolding full_word
-  full_word_alike (Ok x) m u v r s k e h = record { rows = recorded_alike m x x k (drawn_room (log_start r) tape u r x refl e).0 h; progress = refl }
+  full_word_alike (Ok x) m u v r s k e h = record { rows = recorded_alike m x x k (drawn_room (log_start r) tape u r x refl e) h; progress = refl }
   full_word_alike (Err o) m u v r s k e h = record { rows = h; progress = refl }
 
   full_words_alike : (n m u v : ℕ) (r s : Row) → m + n ≤ w → R u r v s → Agreed R (full_words n tape m u r) (full_words n tape' m v s)
@@ -62,7 +62,7 @@ module _ (w : ℕ) (tape tape' : List ℕ) (R : Relation) (alike : Drawing w tap
       → Agreed R (tail_of d c unit m u r) (tail_of d c unit m v s)
   unfolding tail_of
   tail_of_alike (Ok x) c unit m u v r s k e h =
-      record { rows = recorded_alike m _ _ k (drawn_room (log_start r) tape u r x refl e).0 h; progress = refl }
+      record { rows = recorded_alike m _ _ k (drawn_room (log_start r) tape u r x refl e) h; progress = refl }
   tail_of_alike (Err o) c unit m u v r s k e h = record { rows = h; progress = refl }
 
   tail_alike : (x : Value) (unit m u v : ℕ) (r s : Row) → m < w → R u r v s → Agreed R (tail x tape unit m u r) (tail x tape' unit m v s)

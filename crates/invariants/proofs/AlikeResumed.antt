@@ -71,8 +71,8 @@ module _ (k : ℕ) (tape : List ℕ) (x : ℕ) where
     resumed_draws : {u v : ℕ} {r s : Row} → Resumed u r v s → drawn (log_start r) tape u r ≡ drawn (log_start s) (drop k tape) v s
     resumed_draws {v = v} {r = r} h = rw (h.used, h.other) (rest_drawn v r)
 
-    resumed_log : {u v : ℕ} {r s : Row} (y : ℕ) → log_count r < log_room r → Resumed u r v s → Resumed (u + 1) (logged y r) (v + 1) (logged y s)
-    resumed_log {r = r} y l h =
+    resumed_log : {u v : ℕ} {r s : Row} (y : ℕ) → log_count r < log_room r → u < length tape → Resumed u r v s → Resumed (u + 1) (logged y r) (v + 1) (logged y s)
+    resumed_log {r = r} y l m h =
         record { memory = h.memory; used = let e = h.used in omega arith; other = ap (logged y) h.other ∙ log_apart x y r }
 
     pub resumed : Drawing w tape (drop k tape) Resumed

@@ -47,84 +47,110 @@ run_resumed k tape x n u v r e =
     run_for_alike w tape (drop k tape) R (drawing_alike w tape (drop k tape) R (resumed k tape x w)) n u v r (set_limit x r)
     (record { memory = refl; used = e; other = refl })
 
+-- what is the same of two runs that agree with a third, one of them on the rest of the tape
+pub same_end : {k x w : ℕ} {tape : List ℕ} {f y z : Finished} → AgreedRuns (Resumed 0 tape x w) f z → AgreedRuns (Resumed k tape x w) f y
+    → record { row = y.row; ran = answer_of y.ran.progress y.ran.pc (k + y.ran.used) } ≡ z
+same_end {k} {x} {w} {tape} {f} {y} {z} one two =
+    let used : k + y.ran.used ≡ z.ran.used = omega (arith, one.rows.used, two.rows.used) in
+    λ i. record {
+      row = (two.rows.other ∙ sym one.rows.other) i;
+      ran = answer_of ((sym two.progress ∙ one.progress) i) ((sym two.pc ∙ one.pc) i) (used i);
+    }
+
+-- a run that agrees with another but for the limit
+pub begun_again : {x w : ℕ} {tape : List ℕ} {f z : Finished} → AgreedRuns (Resumed 0 tape x w) f z → z ≡ record { row = set_limit x f.row; ran = f.ran }
+begun_again {x} {w} {tape} {f} {z} one =
+    let used : z.ran.used ≡ f.ran.used = omega (arith, one.rows.used) in
+    λ i. record { row = one.rows.other i; ran = answer_of (sym one.progress i) (sym one.pc i) (used i) }
+
+-- of a run of a + b instructions from r
+module _ (a b : ℕ) (r : Row) where
+  -- its limit
+  abbrev pub limit : ℕ
+  limit = limit_of r + (a + b)
+
+  -- how many instructions a run of a makes that still runs, and how many are left
+  abbrev pub made : ℕ
+  made = limit_of r + a - depth_of r
+
+  abbrev pub left : ℕ
+  left = limit - (depth_of r + made)
+
+  pub in_two : limit - depth_of r ≡ made + left
+  in_two = omega arith
+
+  -- where a run of a stops
+  pub record Stopped (s : Row) : Type 0 where
+    pub limit : limit_of s ≡ limit_of r + a
+    pub depth : depth_of s ≡ depth_of r + made
+
+  pub limit_then : (s : Row) → limit_of s ≡ limit_of r + a → limit_of s + b ≡ limit
+  limit_then s e = omega arith
+
+  pub count_then : (s : Row) → Stopped s → limit_of s + b - depth_of s ≡ left
+  count_then s e = omega (arith, e.limit, e.depth)
+
+pub limit_again : (x y : ℕ) (s : Row) → set_limit y (set_limit x s) ≡ set_limit y s
+limit_again x y s = ap (λ (l : List ℕ). row l s.marks) (set-set s.words 3 x y)
+
 module _ (a b : ℕ) (tape : List ℕ) (r : Row) (shape : Shape r.words r.marks) where
   abbrev first : Finished
   first = run_of a tape 0 r
 
-  -- the limit of the single run
-  abbrev limit : ℕ
-  limit = limit_of r + (a + b)
-
-  -- how many instructions the first run makes that still runs, and how many are left
-  abbrev made : ℕ
-  made = limit_of r + a - depth_of r
-
-  abbrev left : ℕ
-  left = limit - (depth_of r + made)
-
   -- the single run, so far
   abbrev begun : Finished
-  begun = run_for made tape 0 (set_limit limit r)
+  begun = run_for (made a b r) tape 0 (set_limit (limit a b r) r)
 
-  limit_again : (x y : ℕ) (s : Row) → set_limit y (set_limit x s) ≡ set_limit y s
-  limit_again x y s = ap (λ (l : List ℕ). row l s.marks) (set-set s.words 3 x y)
-
-  so_far : AgreedRuns (Resumed 0 tape limit (memory_words r)) first begun
+  so_far : AgreedRuns (Resumed 0 tape (limit a b r) (memory_words r)) first begun
   unfolding run_of
-  so_far = rw (limit_again (limit_of r + a) limit r) at (run_resumed 0 tape limit made 0 0 (set_limit (limit_of r + a) r) (omega arith))
-
-  begun_row : begun.row ≡ set_limit limit first.row
-  begun_row = so_far.rows.other
+  so_far =
+      rw (limit_again (limit_of r + a) (limit a b r) r) at
+      (run_resumed 0 tape (limit a b r) (made a b r) 0 0 (set_limit (limit_of r + a) r) (omega arith))
 
   begun_used : first.ran.used ≡ begun.ran.used
   begun_used = let e = so_far.rows.used in omega arith
 
-  single : run_of (a + b) tape 0 r ≡ followed_by begun (run_for left tape)
+  single : run_of (a + b) tape 0 r ≡ followed_by begun (run_for (left a b r) tape)
   unfolding run_of
-  single = let n : limit - depth_of r ≡ made + left = omega arith in rw n (run_split made left tape 0 (set_limit limit r))
+  single = rw (in_two a b r) (run_split (made a b r) (left a b r) tape 0 (set_limit (limit a b r) r))
 
-  first_limit : limit_of first.row ≡ limit_of r + a
+  pub first_limit : limit_of first.row ≡ limit_of r + a
   first_limit = run_limit a tape 0 r shape
 
   module _ (still : first.ran.progress ≡ Running) where
-    first_depth : depth_of first.row ≡ depth_of r + made
+    pub first_stopped : Stopped a b r first.row
     unfolding run_of
-    first_depth =
+    first_stopped =
         let long = length-set r.words 3 (limit_of r + a) in
         let depth = get_or-set_other r.words 3 2 (limit_of r + a) 0 (λ e. omega arith) in
-        running_depth made tape 0 (set_limit (limit_of r + a) r) (omega arith) still ∙ omega arith
+        record {
+          limit = first_limit;
+          depth = running_depth (made a b r) tape 0 (set_limit (limit_of r + a) r) (omega arith) still ∙ omega arith;
+        }
 
     -- the run of what is left, from where the first stopped
     abbrev rest : Finished
-    rest = run_for left tape first.ran.used first.row
+    rest = run_for (left a b r) tape first.ran.used first.row
 
-    single_rest : AgreedRuns (Resumed 0 tape limit (memory_words first.row)) rest (run_of (a + b) tape 0 r)
+    single_rest : AgreedRuns (Resumed 0 tape (limit a b r) (memory_words first.row)) rest (run_of (a + b) tape 0 r)
     unfolding continued
     single_rest =
         let s = single in
         let p : begun.ran.progress ≡ Running = sym so_far.progress ∙ still in
-        rw (s, p, begun_row, ← begun_used) (run_resumed 0 tape limit left first.ran.used first.ran.used first.row (omega arith))
+        rw (s, p, so_far.rows.other, ← begun_used) (run_resumed 0 tape (limit a b r) (left a b r) first.ran.used first.ran.used first.row (omega arith))
 
-    second_rest : AgreedRuns (Resumed first.ran.used tape limit (memory_words first.row)) rest (run_of b (drop first.ran.used tape) 0 first.row)
+    second_rest : AgreedRuns (Resumed first.ran.used tape (limit a b r) (memory_words first.row)) rest (run_of b (drop first.ran.used tape) 0 first.row)
     unfolding run_of
     second_rest =
-        let n : limit_of first.row + b - depth_of first.row ≡ left = omega (arith, first_limit, first_depth) in
-        let l : limit_of first.row + b ≡ limit = omega (arith, first_limit) in
-        rw (n, l) (run_resumed first.ran.used tape limit left first.ran.used 0 first.row (omega arith))
+        rw (count_then a b r first.row first_stopped, limit_then a b r first.row first_limit)
+        (run_resumed first.ran.used tape (limit a b r) (left a b r) first.ran.used 0 first.row (omega arith))
 
     -- both come to the same
     pub goes_on : let x = run_of b (drop first.ran.used tape) 0 first.row in
         record { row = x.row; ran = answer_of x.ran.progress x.ran.pc (first.ran.used + x.ran.used) } ≡ run_of (a + b) tape 0 r
-    goes_on =
-        let one = single_rest in
-        let two = second_rest in
-        let used : first.ran.used + (run_of b (drop first.ran.used tape) 0 first.row).ran.used ≡ (run_of (a + b) tape 0 r).ran.used = omega (arith, one.rows.used, two.rows.used) in
-        λ i. record {
-          row = (two.rows.other ∙ sym one.rows.other) i;
-          ran = answer_of ((sym two.progress ∙ one.progress) i) ((sym two.pc ∙ one.pc) i) (used i);
-        }
+    goes_on = same_end single_rest second_rest
 
-  ended : (o : Outcome) → begun.ran.progress ≡ Ended o → followed_by begun (run_for left tape) ≡ begun
+  ended : (o : Outcome) → begun.ran.progress ≡ Ended o → followed_by begun (run_for (left a b r) tape) ≡ begun
   unfolding continued
   ended o p = rw p
 
@@ -132,8 +158,4 @@ module _ (a b : ℕ) (tape : List ℕ) (r : Row) (shape : Shape r.words r.marks)
   pub ends_alike : (o : Outcome) → first.ran.progress ≡ Ended o
       → run_of (a + b) tape 0 r ≡ record { row = set_limit (limit_of first.row + b) first.row; ran = first.ran }
   ends_alike o e =
-      let l : limit ≡ limit_of first.row + b = omega (arith, first_limit) in
-      single
-      ∙ ended o (sym so_far.progress ∙ e)
-      ∙ (λ i. record { row = begun_row i; ran = answer_of (sym so_far.progress i) (sym so_far.pc i) (sym begun_used i) })
-      ∙ ap (λ (x : ℕ). record { row = set_limit x first.row; ran = first.ran }) l
+      single ∙ ended o (sym so_far.progress ∙ e) ∙ begun_again so_far ∙ ap (λ (x : ℕ). record { row = set_limit x first.row; ran = first.ran }) (sym (limit_then a b r first.row first_limit))

@@ -33,7 +33,7 @@ module _ (w : ℕ) (P : Row → Type 0) (kept : Invariant w P) (tape : List ℕ)
         to_header = λ {r = r} i x k h. record { used = h.used; one = ap (set_word i x) h.one; holds = kept.to_header r i x k h.holds };
         to_slot = λ {r = r} n x k l h. record { used = h.used; one = ap (set_slot n x) h.one; holds = kept.to_slot r n x k l h.holds };
         draws = λ h. ap₂ (λ (u : ℕ) (r : Row). drawn (log_start r) tape u r) h.used h.one;
-        to_log = λ {r = r} x k h. record { used = ap (λ (u : ℕ). u + 1) h.used; one = ap (logged x) h.one; holds = kept.to_log r x k h.holds };
+        to_log = λ {r = r} x k l h. record { used = ap (λ (u : ℕ). u + 1) h.used; one = ap (logged x) h.one; holds = kept.to_log r x k h.holds };
       }
 
   pub advanced_keeps : (used : ℕ) (r : Row) → P r → P (advanced tape used r).row

@@ -8,6 +8,7 @@ pub mod AlikeRuns
 pub mod AlikeResumed
 pub mod Limits
 pub mod GoingOn
+pub mod TapeUse
 pub mod Invariant
 pub mod SlotLists
 pub mod SoundFacts

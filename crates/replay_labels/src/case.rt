@@ -11,24 +11,28 @@ const WORDS: usize = 304;
 
 const MARKS: usize = 288;
 
+pub(crate) type Words = [u64; WORDS];
+
+pub(crate) type Marks = [u8; MARKS];
+
 // The runs of a line one after the other, each on what the last one left of the row and of the tape. The first that disagrees
 // is the last.
-fn replay_runs(program: &Program, words: &mut [u64], marks: &mut [u8]) -> Judged {
+fn replay_runs(program: &Program, words: &mut Words, marks: &mut Marks) -> Judged {
     let mut used = 0usize;
-    let mut runs = 0u64;
+    let mut calls = 0u64;
     for run in program.rest.chunks_exact(RUN_COLUMNS) {
         let Some(tape) = program.tape.get(used..) else {
-            return disagrees(runs);
+            return disagrees(calls);
         };
-        runs = runs.saturating_add(1);
-        let Some(taken) = replay_run(run, tape, words, marks) else {
-            return disagrees(runs);
+        let Some(replayed) = replay_run(run, tape, words, marks) else {
+            return disagrees(calls);
         };
-        used = used.saturating_add(taken);
+        used = used.saturating_add(replayed.used);
+        calls = calls.saturating_add(replayed.calls);
     }
     Judged {
         agrees: true,
-        parts: runs,
+        parts: calls,
     }
 }
 

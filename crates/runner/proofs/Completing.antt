@@ -9,17 +9,16 @@ use Rattle.rows.specs.Rows.{Row, pc_of, depth_of, limit_of, set_limit}
 use Rattle.calls.specs.Calls.{completed}
 use Rattle.calls.specs.declared.step.Step.{Step}
 use Rattle.calls.specs.declared.step.Step.TheVariants as step
-use Rattle.loader.specs.Loading.{Program}
 use Rattle.machine.specs.Steps.{stepped, settled, advanced}
 use Rattle.machine.specs.Runs.{Finished, stops, continued, run_for, run_of}
 use Rattle.machine.specs.Writes.{bytes_from}
 use Rattle.checks.specs.declared.refusal.Refusal.{Refusal}
-use Rattle.executor.specs.Entries.{creation_checked, created_row, Answered, answered, run_answered, run_answer}
+use Rattle.executor.specs.Entries.{Answered, answered, run_answered}
 use Rattle.runner.specs.Serving.{Served, silent, preceded, served_by, served_for, served_of}
-use Rattle.runner.specs.Entry.{Left, served_entry, run_program, OneRun}
+use Rattle.runner.specs.Entry.{Left, served_entry, OneRun}
 
 -- the output is not full
-abbrev Unfull : Served → Type 0
+abbrev pub Unfull : Served → Type 0
 Unfull x = x.finished.ran.progress ≡ Ended (Failed OutputFull) → ⊥
 
 -- one instruction, if the rest is so
@@ -57,19 +56,22 @@ numbered p h e = h (ap progress_number e)
 abbrev answered_by : Left → Answered
 answered_by x = record { row = x.row; answer = x.printed.answer }
 
-entry_run : (c : Result (Unit {0}) Refusal) (step : ℕ) (input : List ℕ) (r : Row) (output : List ℕ) → let x = served_entry c step input r output in
-    ((run_answer x.printed.answer).number ≡ error_number OutputFull → ⊥) → answered_by x ≡ run_answered c step input r
-unfolding served_entry run_answered served_of run_of
+-- a served run that ends otherwise is the run
+pub served_of_run : (step : ℕ) (tape : List ℕ) (room : ℕ) (r : Row) → Unfull (served_of step tape room 0 r)
+    → (served_of step tape room 0 r).finished ≡ run_of step tape 0 r
+unfolding served_of run_of
+served_of_run step tape room r h = served_run (limit_of r + step - depth_of r) tape room 0 (set_limit (limit_of r + step) r) h
+
+entry_run : (c : Result (Unit {0}) Refusal) (step : ℕ) (input : List ℕ) (r : Row) (output : List ℕ)
+    → OneRun (run_answered c step input r) (answered_by (served_entry c step input r output))
+unfolding served_entry run_answered
 entry_run (Ok t) step input r output h =
-    let ran = (served_for (limit_of r + step - depth_of r) input (length output) 0 (set_limit (limit_of r + step) r)).finished.ran in
-    ap (λ (x : Finished). answered x.row.words x.row.marks (Ok x.ran))
-    (served_run (limit_of r + step - depth_of r) input (length output) 0 (set_limit (limit_of r + step) r) (numbered ran.progress h))
+    let x = (served_of step input (length output) 0 r).finished in
+    ap (λ (x : Finished). answered x.row.words x.row.marks (Ok x.ran)) (served_of_run step input (length output) r (numbered x.ran.progress h))
 entry_run (Err f) step input r output h = refl
 
 -- so of what an entry leaves
-pub is_one_run : (memory log step : ℕ) (p : Program) (input : List ℕ) (r : Row) (output : List ℕ) {x : Left}
-    → x ≡ run_program memory log step p input r output → OneRun memory log step p input r (answered_by x)
-unfolding run_program
-is_one_run memory log step p input r output e =
-    let c = creation_checked memory log p r in
-    subst (λ (x : Left). OneRun memory log step p input r (answered_by x)) (sym e) (entry_run c step input (created_row c p r) output)
+pub is_one_run : (c : Result (Unit {0}) Refusal) (step : ℕ) (input : List ℕ) (r : Row) (output : List ℕ) {x : Left}
+    → x ≡ served_entry c step input r output → OneRun (run_answered c step input r) (answered_by x)
+is_one_run c step input r output e =
+    subst (λ (x : Left). OneRun (run_answered c step input r) (answered_by x)) (sym e) (entry_run c step input r output)

@@ -10,7 +10,8 @@ use Rattle.checks.specs.declared.refusal.Refusal.{Refusal}
 use Rattle.executor.specs.Entries.{size_tests, creation_checked, created_row}
 use Rattle.executor.proofs.Accepted.{Sizes, sizes_accepted, creation_refused}
 use Rattle.runner.specs.Serving.{served_of}
-use Rattle.runner.specs.Entry.{Left, left, left_by, served_entry, run_program}
+use Rattle.runner.specs.Entry.{Left, left, left_by, refused, served_entry, run_program}
+use Rattle.runner.specs.declared.Printed.{Printed}
 
 -- new is what c, the verdict on the sizes and the program, made of the lent row r
 module _ (memory log : ℕ) (p : Program) (r : Row) {c : Result (Unit {0}) Refusal} (e : c ≡ creation_checked memory log p r)
@@ -46,7 +47,7 @@ module _ (memory log : ℕ) (p : Program) (r : Row) {c : Result (Unit {0}) Refus
     unfolding served_entry
     served h e = e ∙ (rw h at entered)
 
-    pub refused : {f : Refusal} → c ≡ Err f
-        → left new.words new.marks output (record { answer = Err f; written = 0 }) ≡ run_program memory log step p input r output
+    pub turned_away : {f : Refusal} → c ≡ Err f
+        → {x : Printed} → x ≡ refused f → left new.words new.marks output x ≡ run_program memory log step p input r output
     unfolding served_entry
-    refused h = rw h at entered
+    turned_away h g = rw g (rw h at entered)

@@ -3,4 +3,8 @@ pub mod Printing
 pub mod Halts
 pub mod Turns
 pub mod Entering
-pub mod Born
+pub mod Kept
+pub mod Alike
+pub mod GoingOn
+pub mod Resuming
+pub mod TapeUse

@@ -1,2 +1,3 @@
 pub mod Serving
 pub mod Entry
+pub mod Resuming

@@ -1,4 +1,5 @@
-// The counter runner: a label program on a keyed order, without the search, for hosts. What the program writes goes to a lent output.
+// The counter runner: a label program on a keyed order, without the search, for hosts, in one call or in several. What the program writes goes to a
+// lent output.
 // Nothing is asked of the caller; words are exactly 38 + W + L and marks 32 + W, as for an executor, and what is refused changes nothing.
 #![tactic(auto)]
 
@@ -9,10 +10,11 @@ ghost use Rattle.loader.specs.Lent.{program_seen};
 ghost use Rattle.calls.specs.Calls.{completed};
 ghost use Rattle.machine.specs.Runs.{answer_of};
 ghost use Rattle.machine.specs.Writes.{bytes_from};
-ghost use Rattle.executor.specs.Entries.{BornAtZero, answered};
+ghost use Rattle.executor.specs.Entries.{BornAtZero, BornKept, answered, run_answer, run_entry};
 ghost use Rattle.writing.specs.Writing.{Wrote};
 ghost use Rattle.runner.specs.Serving.{served_of};
-ghost use Rattle.runner.specs.Entry.{printed, left, left_by, run_program, OneRun};
+ghost use Rattle.runner.specs.Entry.{printed, refused, left, left_by, run_program, go_on, one_run, OneRun};
+ghost use Rattle.runner.specs.Resuming.{numbered_as, ProgramGoesOn, RowGoesOn};
 
 use answers::error::ExecutorError;
 use answers::outcome::{Outcome, Progress};
@@ -37,6 +39,15 @@ fn ended(progress: Progress, pc: u64, used: usize, written: usize) -> Printed
     Printed {
         answer: Ok(Ran { progress, pc, used }),
         written,
+    }
+}
+
+fn refused(refusal: Refusal) -> Printed
+    ensures { result ≡ refused refusal }
+{
+    Printed {
+        answer: Err(refusal),
+        written: 0,
     }
 }
 
@@ -118,16 +129,43 @@ pub fn run_program(
 ) -> Printed
     ensures result_after { left words.new marks.new output.new result
         ≡ run_program memory log step (program_seen program.entry) input.now (row words.old marks.old) output.old }
-    ensures one_run { OneRun memory log step (program_seen program.entry)
-        input.now (row words.old marks.old) (answered words.new marks.new result.answer) }
+    ensures one_run { OneRun (one_run memory log step (program_seen program.entry) input.now (row words.old marks.old))
+        (answered words.new marks.new result.answer) }
+    ensures goes_on { ProgramGoesOn memory log step (program_seen program.entry) input.now (row words.old marks.old) output.old
+        (numbered_as words.new marks.new output.new (run_answer result.answer) result.written) }
     ensures born { BornAtZero memory log (program_seen program.entry) (row words.old marks.old) (row words.new marks.new) }
+    ensures used_in_bounds { (run_answer result.answer).used ≤ length input.now }
     ensures written_in_bounds { result.written ≤ length output.old }
 {
     match executor::new_executor(words, marks, memory, log, program) {
         Ok(()) => serve_slices(words, marks, step, input, output),
-        Err(refusal) => Printed {
-            answer: Err(refusal),
-            written: 0,
-        },
+        Err(refusal) => refused(refusal),
+    }
+}
+
+// Goes on with a lent row, which a call that answered 22 has left, for at most `step` instructions more. Its input is what that call left of the
+// keyed order, and its output what it left of the output.
+pub fn go_on(
+    words: &mut [u64],
+    marks: &mut [u8],
+    memory: u64,
+    log: u64,
+    step: u32,
+    input: &[u64],
+    output: &mut [u8],
+) -> Printed
+    ensures result_after { left words.new marks.new output.new result
+        ≡ go_on memory log step input.now (row words.old marks.old) output.old }
+    ensures one_run { OneRun (run_entry memory log step input.now (row words.old marks.old))
+        (answered words.new marks.new result.answer) }
+    ensures goes_on { RowGoesOn memory log step input.now (row words.old marks.old) output.old
+        (numbered_as words.new marks.new output.new (run_answer result.answer) result.written) }
+    ensures born { BornKept (row words.old marks.old) (row words.new marks.new) }
+    ensures used_in_bounds { (run_answer result.answer).used ≤ length input.now }
+    ensures written_in_bounds { result.written ≤ length output.old }
+{
+    match executor::check_run(words, marks, memory, log) {
+        Ok(()) => serve_slices(words, marks, step, input, output),
+        Err(refusal) => refused(refusal),
     }
 }

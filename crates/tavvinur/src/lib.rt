@@ -5,14 +5,18 @@ ghost use Rattle.std.specs.Prelude.{◌≡◌, ◌≤◌, length};
 ghost use Rattle.rows.specs.Rows.{row};
 ghost use Rattle.loader.specs.Loading.{image};
 ghost use Rattle.checks.specs.Refusals.{checked_number};
-ghost use Rattle.executor.specs.Entries.{creation_checked, BornAtZero, BornKept, run_answer};
+ghost use Rattle.executor.specs.Entries.{creation_checked, BornAtZero, BornKept, run_answer, run_entry};
+ghost use Rattle.executor.specs.Resuming as runs;
+ghost use Rattle.executor.specs.Resuming.{StopAndGoOn};
 ghost use Rattle.options.specs.Defaults.{default_options};
 ghost use Rattle.options.specs.Means.{mean_numbered};
 ghost use Rattle.tavvinur.specs.Flat.{options_of, flat_of};
 ghost use Rattle.scoring.specs.Entry.{ScoresBounded};
 ghost use Rattle.search.specs.Entry.{Demanded, AgesTold};
 ghost use Rattle.tavvinur.specs.Flat.{left, creation_left, run_left, search_left, scores_with, score_left, AlwaysScored};
-ghost use Rattle.tavvinur.specs.Printing.{flat_printed, printed_left, program_left, OneRun};
+ghost use Rattle.runner.specs.Entry.{one_run};
+ghost use Rattle.runner.specs.Resuming.{ProgramGoesOn, RowGoesOn};
+ghost use Rattle.tavvinur.specs.Printing.{flat_printed, printed_left, program_left, going_left, OneRun, numbered_as};
 
 pub mod by_table;
 
@@ -142,6 +146,8 @@ pub extern "C" fn tavvinur_run(
     tape: &[u64],
 ) -> Answer
     ensures result_after { left words.new marks.new result ≡ run_left memory log step tape.now words.old marks.old }
+    ensures goes_on { StopAndGoOn memory log step tape.now (row words.old marks.old) (runs.numbered_as words.new marks.new result) }
+    ensures used_in_bounds { result.used ≤ length tape.now }
     ensures born { BornKept (row words.old marks.old) (row words.new marks.new) }
 {
     run_answer(executor::run(words, marks, memory, log, step, tape))
@@ -166,14 +172,41 @@ pub extern "C" fn tavvinur_run_program(
     ensures result_after { printed_left words.new marks.new output.new result
         ≡ program_left memory log step (image code_address code.now data_address «data».now)
         input.now words.old marks.old output.old }
-    ensures one_run { OneRun memory log step (image code_address code.now data_address «data».now)
-        input.now words.old marks.old words.new marks.new result }
+    ensures one_run { OneRun (one_run memory log step (image code_address code.now data_address «data».now) input.now (row words.old marks.old))
+        words.new marks.new result }
+    ensures goes_on { ProgramGoesOn memory log step (image code_address code.now data_address «data».now)
+        input.now (row words.old marks.old) output.old (numbered_as words.new marks.new output.new result) }
     ensures born { BornAtZero memory log (image code_address code.now data_address «data».now)
         (row words.old marks.old) (row words.new marks.new) }
+    ensures used_in_bounds { result.used ≤ length input.now }
     ensures written_in_bounds { result.written ≤ length output.old }
 {
     let program = Program::new(code_address, code, data_address, data);
     Printed::from(runner::run_program(words, marks, memory, log, step, program, input, output))
+}
+
+// Goes on with a lent row, which a call that answered 22 has left, for at most `step` instructions more, on what is left of the keyed order and of the
+// output.
+#[unsafe(no_mangle)]
+pub extern "C" fn tavvinur_go_on(
+    words: &mut [u64],
+    marks: &mut [u8],
+    memory: u64,
+    log: u64,
+    step: u32,
+    input: &[u64],
+    output: &mut [u8],
+) -> Printed
+    ensures result_after { printed_left words.new marks.new output.new result
+        ≡ going_left memory log step input.now words.old marks.old output.old }
+    ensures one_run { OneRun (run_entry memory log step input.now (row words.old marks.old)) words.new marks.new result }
+    ensures goes_on { RowGoesOn memory log step input.now (row words.old marks.old) output.old
+        (numbered_as words.new marks.new output.new result) }
+    ensures born { BornKept (row words.old marks.old) (row words.new marks.new) }
+    ensures used_in_bounds { result.used ≤ length input.now }
+    ensures written_in_bounds { result.written ≤ length output.old }
+{
+    Printed::from(runner::go_on(words, marks, memory, log, step, input, output))
 }
 
 // Scores the rows of a lent store among themselves, one score a row; 0, or the number that tells why not.

@@ -251,6 +251,38 @@ fn runs() {
     }
 }
 
+/// A line for a label printed in one call, and in parts: what a part more costs.
+fn compare_parts(memory: u64, every: u32) {
+    let one = proved::print(&LABEL, memory);
+    let pairs = Pairs::taken(one, proved::print_in_parts(&LABEL, memory, every));
+    let [one, parts] = pairs.speeds();
+    let more = f64::from(RUN_INSTRUCTIONS) * (1.0 / parts - 1.0 / one);
+    let hand_overs = RUN_INSTRUCTIONS / every - 1;
+    println!(
+        "| {} | {} | {:.1} | {:.1} | {:.2} |",
+        memory,
+        every,
+        one,
+        parts,
+        more / f64::from(hand_overs)
+    );
+}
+
+fn parts() {
+    println!("parts: label printed at the counter, in one call and in parts");
+    println!(
+        "medians of {} pairs of {} instructions",
+        PAIRS, RUN_INSTRUCTIONS
+    );
+    println!("| memory | instructions a part | one call, million/s | parts, million/s | a part more, microseconds |");
+    println!("|---|---|---|---|---|");
+    for memory in [2048, 65_536, 1_048_576] {
+        for every in [1000, 10_000] {
+            compare_parts(memory, every);
+        }
+    }
+}
+
 fn bits(scores: &[f64]) -> Vec<u64> {
     scores.iter().map(|score| score.to_bits()).collect()
 }
@@ -387,21 +419,18 @@ fn phases() {
 }
 
 fn main() {
-    let parts: [(&str, fn()); 4] = [
+    let all: [(&str, fn()); 5] = [
         ("runs", runs),
+        ("parts", parts),
         ("scoring", scoring),
         ("searches", searches),
         ("phases", phases),
     ];
     let named: Vec<String> = std::env::args().skip(1).collect();
     for name in &named {
-        assert!(
-            parts.iter().any(|(part, _)| part == name),
-            "no part {}",
-            name
-        );
+        assert!(all.iter().any(|(part, _)| part == name), "no part {}", name);
     }
-    for (part, run) in &parts {
+    for (part, run) in &all {
         if named.is_empty() || named.iter().any(|name| name == part) {
             run();
             println!();

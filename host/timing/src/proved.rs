@@ -2,7 +2,7 @@
 
 use crate::{
     clock,
-    tavvinur::{new_executor, row_marks, row_words, run as run_row, run_program},
+    tavvinur::{go_on, new_executor, row_marks, row_words, run as run_row, run_program},
     tavvinur::{score, score_by_table, search as search_rows, search_by_table, table_length},
     tavvinur::{Answer, Program, HARMONIC},
     Case, ENDING, GOING_ON, KEYS,
@@ -77,6 +77,35 @@ pub fn print(program: &'static Program, memory: u64) -> impl FnMut(u32) -> Durat
             printed.written >= u64::from(instructions) / 100 * 8 - 8,
             "eight bytes in every hundred instructions"
         );
+        time
+    }
+}
+
+/// The same in parts of so many instructions, each of which goes on from the last.
+pub fn print_in_parts(
+    program: &'static Program,
+    memory: u64,
+    every: u32,
+) -> impl FnMut(u32) -> Duration {
+    let Store {
+        mut words,
+        mut marks,
+    } = Store::new(1, memory, 0);
+    let mut output = Vec::new();
+    move |instructions| {
+        output.resize(instructions as usize / 8, 1);
+        let (words, marks) = (&mut words[..], &mut marks[..]);
+        let started = clock::now();
+        let mut printed = run_program(words, marks, memory, 0, every, program, &[], &mut output);
+        let mut written = printed.written;
+        for _ in 1..instructions / every {
+            let rest = &mut output[written as usize..];
+            printed = go_on(words, marks, memory, 0, every, &[], rest);
+            written += printed.written;
+        }
+        let time = clock::now() - started;
+        assert_eq!(printed.number, 22);
+        assert!(written >= u64::from(instructions) / 100 * 8 - 8);
         time
     }
 }

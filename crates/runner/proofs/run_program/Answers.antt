@@ -1,10 +1,14 @@
-use Rattle.std.proofs.Common.{length, sym, ◌∙◌, arith}
+use Rattle.std.proofs.Common.{length, sym, ap, ◌∙◌, arith}
 use Rattle.rows.specs.Rows.{row}
 use Rattle.loader.specs.Lent.{program_seen}
+use Rattle.runner.specs.Entry.{run_program}
+use Rattle.runner.specs.Resuming.{numbered}
 use Rattle.executor.proofs.Born.{not_accepted}
-use Rattle.runner.proofs.Born.{served_born}
-use Rattle.runner.proofs.Entering.{new_low, new_shape, served, refused}
+use Rattle.runner.proofs.Kept.{served_born}
+use Rattle.runner.proofs.Entering.{new_low, new_shape, served, turned_away}
 use Rattle.runner.proofs.Completing.{is_one_run}
+use Rattle.runner.proofs.Resuming.{program_goes_on}
+use Rattle.runner.proofs.TapeUse.{input_used}
 use Rattle.runner.proofs.Turns.{within}
 use Rattle.runner.proofs.run_program.Goals as goal
 
@@ -28,13 +32,8 @@ returns-in-Ok-clause-result_after c =
     served a.memory a.log (program_seen a.program) (row a.words.now a.marks.now) made.value made.row_after a.step a.input.now a.output.now c.in-Ok.is c.serve_slices.ensures
 
 pub returns-in-Ok-clause-one_run : goal.returns-in-Ok-clause-one_run
-returns-in-Ok-clause-one_run c =
-    let a = c.args in
-    let p = program_seen a.program in
-    let r = row a.words.now a.marks.now in
-    let made = c.new_executor.ensures in
-    is_one_run a.memory a.log a.step p a.input.now r a.output.now
-    (served a.memory a.log p r made.value made.row_after a.step a.input.now a.output.now c.in-Ok.is c.serve_slices.ensures)
+unfolding run_program
+returns-in-Ok-clause-one_run c = is_one_run _ _ _ _ _ (returns-in-Ok-clause-result_after c)
 
 pub returns-in-Ok-clause-written_in_bounds : goal.returns-in-Ok-clause-written_in_bounds
 returns-in-Ok-clause-written_in_bounds c = within _ _ c.serve_slices.ensures c.serve_slices.auto.output
@@ -43,16 +42,16 @@ pub returns-in-Err-clause-result_after : goal.returns-in-Err-clause-result_after
 returns-in-Err-clause-result_after c =
     let a = c.args in
     let made = c.new_executor.ensures in
-    refused a.memory a.log (program_seen a.program) (row a.words.now a.marks.now) made.value made.row_after a.step a.input.now a.output.now c.in-Err.is
+    turned_away a.memory a.log (program_seen a.program) (row a.words.now a.marks.now) made.value made.row_after a.step a.input.now a.output.now c.in-Err.is c.refused.ensures
 
 pub returns-in-Err-clause-one_run : goal.returns-in-Err-clause-one_run
-returns-in-Err-clause-one_run c =
+unfolding run_program
+returns-in-Err-clause-one_run c = is_one_run _ _ _ _ _ (returns-in-Err-clause-result_after c)
+
+pub returns-in-Ok-clause-goes_on : goal.returns-in-Ok-clause-goes_on
+returns-in-Ok-clause-goes_on c =
     let a = c.args in
-    let p = program_seen a.program in
-    let r = row a.words.now a.marks.now in
-    let made = c.new_executor.ensures in
-    is_one_run a.memory a.log a.step p a.input.now r a.output.now
-    (refused a.memory a.log p r made.value made.row_after a.step a.input.now a.output.now c.in-Err.is)
+    program_goes_on a.memory a.log a.step (program_seen a.program) a.input.now (row a.words.now a.marks.now) a.output.now (ap numbered (returns-in-Ok-clause-result_after c))
 
 pub returns-in-Ok-clause-born : goal.returns-in-Ok-clause-born
 returns-in-Ok-clause-born c =
@@ -66,3 +65,11 @@ pub returns-in-Err-clause-born : goal.returns-in-Err-clause-born
 returns-in-Err-clause-born c =
     let a = c.args in
     not_accepted a.memory a.log (program_seen a.program) (row a.words.now a.marks.now) (sym c.in-Err.is ∙ c.new_executor.ensures.value)
+
+pub returns-in-Ok-clause-used_in_bounds : goal.returns-in-Ok-clause-used_in_bounds
+unfolding run_program
+returns-in-Ok-clause-used_in_bounds c = input_used _ _ _ _ _ (returns-in-Ok-clause-result_after c)
+
+pub returns-in-Err-clause-used_in_bounds : goal.returns-in-Err-clause-used_in_bounds
+unfolding run_program
+returns-in-Err-clause-used_in_bounds c = input_used _ _ _ _ _ (returns-in-Err-clause-result_after c)

@@ -20,7 +20,7 @@ mod tavvinur;
 
 use pairs::Pairs;
 use std::{ffi::c_void, ffi::CString, os::raw::c_char, time::Duration};
-use tavvinur::{row_marks, row_words, Answer};
+use tavvinur::{row_marks, row_words, Answer, Printed};
 
 type NewExecutor = unsafe extern "C" fn(
     *mut u64,
@@ -49,6 +49,26 @@ type Run = unsafe extern "C" fn(
     usize,
 ) -> Answer;
 
+type RunProgram = unsafe extern "C" fn(
+    *mut u64,
+    usize,
+    *mut u8,
+    usize,
+    u64,
+    u64,
+    u32,
+    u64,
+    *const u8,
+    usize,
+    u64,
+    *const u8,
+    usize,
+    *const u64,
+    usize,
+    *mut u8,
+    usize,
+) -> Printed;
+
 extern "C" {
     fn dlopen(name: *const c_char, flags: i32) -> *mut c_void;
     fn dlsym(library: *mut c_void, name: *const c_char) -> *mut c_void;
@@ -64,6 +84,7 @@ const DATA_ADDRESS: u64 = 0x200;
 struct Library {
     new_executor: NewExecutor,
     run: Run,
+    run_program: RunProgram,
 }
 
 fn c_string(text: &str) -> CString {
@@ -84,6 +105,7 @@ impl Library {
             Library {
                 new_executor: std::mem::transmute(symbol("tavvinur_new_executor")),
                 run: std::mem::transmute(symbol("tavvinur_run")),
+                run_program: std::mem::transmute(symbol("tavvinur_run_program")),
             }
         }
     }
@@ -130,6 +152,56 @@ impl Library {
             time
         }
     }
+
+    /// A program at the counter, which each call loads and runs; it writes at most one byte in ten instructions.
+    fn prints(&self, code: &'static [u8]) -> impl FnMut(u32) -> Duration {
+        let (mut words, mut marks) = (vec![0; row_words(MEMORY, LOG)], vec![0; row_marks(MEMORY)]);
+        let mut output = vec![1; pairs::RUN_INSTRUCTIONS as usize / 10];
+        let run_program = self.run_program;
+        move |instructions| {
+            let started = clock::now();
+            // as in `runs`
+            let printed = unsafe {
+                run_program(
+                    words.as_mut_ptr(),
+                    words.len(),
+                    marks.as_mut_ptr(),
+                    marks.len(),
+                    MEMORY,
+                    LOG,
+                    instructions,
+                    CODE_ADDRESS,
+                    code.as_ptr(),
+                    code.len(),
+                    DATA_ADDRESS,
+                    code.as_ptr(),
+                    0,
+                    [0].as_ptr(),
+                    0,
+                    output.as_mut_ptr(),
+                    output.len(),
+                )
+            };
+            let time = clock::now() - started;
+            assert_eq!(printed.number, 22);
+            assert!(printed.written > 0);
+            time
+        }
+    }
+}
+
+/// A line of the table: what it compares, told how to take each library's times.
+fn line<F: FnMut(u32) -> Duration>(
+    name: &str,
+    places: &[[Library; 2]],
+    times: impl Fn(&Library) -> F,
+) {
+    let ratios: Vec<f64> = (places.iter())
+        .map(|[first, second]| Pairs::taken(times(first), times(second)).ratios()[1])
+        .collect();
+    let each: Vec<String> = ratios.iter().map(|ratio| format!("{:.2}", ratio)).collect();
+    let mean = ratios.iter().sum::<f64>() / ratios.len() as f64;
+    println!("| {} | {} | {:.2} |", name, each.join(", "), mean);
 }
 
 fn main() {
@@ -145,11 +217,12 @@ fn main() {
         ("label", &label::LABEL_CODE),
         ("straight", &straight::STRAIGHT_CODE),
     ] {
-        let ratios: Vec<f64> = (places.iter())
-            .map(|[first, second]| Pairs::taken(first.runs(code), second.runs(code)).ratios()[1])
-            .collect();
-        let each: Vec<String> = ratios.iter().map(|ratio| format!("{:.2}", ratio)).collect();
-        let mean = ratios.iter().sum::<f64>() / ratios.len() as f64;
-        println!("| {} | {} | {:.2} |", name, each.join(", "), mean);
+        line(name, &places, |library| library.runs(code));
+    }
+    for (name, code) in [
+        ("label, printed at the counter", &label::LABEL_CODE[..]),
+        ("straight, printed at the counter", &straight::STRAIGHT_CODE),
+    ] {
+        line(name, &places, |library| library.prints(code));
     }
 }
