@@ -15,7 +15,7 @@ use Rattle.checks.specs.declared.refusal.Refusal.{Refusal}
 use Rattle.invariants.proofs.TapeUse.{run_used}
 use Rattle.invariants.proofs.GoingOn.{goes_on, ends_alike}
 use Rattle.executor.specs.Entries.{Answered, run_checked, run_answered, run_entry, run_answer}
-use Rattle.executor.specs.Resuming.{Numbered, numbered_as, numbered, used_before, GoesOn, StopAndGoOn}
+use Rattle.executor.specs.Resuming.{Numbered, numbered_as, numbered, joined, GoesOn, StopAndGoOn}
 use Rattle.executor.proofs.Accepted.{runnable, run_accepted}
 
 -- only a run that stopped at its limit answers 22
@@ -60,9 +60,8 @@ module _ (memory log a b : ℕ) (tape : List ℕ) (r : Row) (accepted : run_chec
   shape : Shape r.words r.marks
   shape = (runnable memory log r accepted).sizes.shape
 
-  joined : first.ran.progress ≡ Running
-      → record { row = second.row; answer = used_before first.ran.used (run_answer (Ok second.ran)) } ≡ told (run_of (a + b) tape 0 r)
-  joined still = ap told (goes_on a b tape r shape still)
+  both : first.ran.progress ≡ Running → joined (told first) (told second) ≡ told (run_of (a + b) tape 0 r)
+  both still = ap told (goes_on a b tape r shape still)
 
   ended : (p : Progress) → first.ran.progress ≡ p → (progress_number first.ran.progress ≡ progress_number Running → ⊥)
       → told (run_of (a + b) tape 0 r) ≡ record { row = set_limit (limit_of first.row + b) first.row; answer = run_answer (Ok first.ran) }
@@ -75,8 +74,7 @@ module _ (memory log a b : ℕ) (tape : List ℕ) (r : Row) (accepted : run_chec
         goes_on = λ still low.
             let again = accepted_again memory log a tape r accepted low in (
               again,
-              ap (λ (x : Numbered). record { row = x.row; answer = used_before first.ran.used x.answer }) (told_run memory log b (drop first.ran.used tape) first.row again)
-                  ∙ joined (running_number first.ran.progress still),
+              ap (joined (told first)) (told_run memory log b (drop first.ran.used tape) first.row again) ∙ both (running_number first.ran.progress still),
             );
         ends = ended first.ran.progress refl;
       }

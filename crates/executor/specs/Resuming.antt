@@ -25,13 +25,16 @@ AtItsLimit a = a.number ≡ progress_number Running
 abbrev pub used_before : ℕ → Answer → Answer
 used_before n a = record { number = a.number; row = a.row; pc = a.pc; value = a.value; used = n + a.used }
 
+-- what two runs come to: y had what x left of the tape
+abbrev pub joined : Numbered → Numbered → Numbered
+joined x y = record { row = y.row; answer = used_before x.answer.used y.answer }
+
 -- x is what a run on a tape left, single what one run leaves that has b instructions more
 pub record GoesOn (memory log b : ℕ) (tape : List ℕ) (x single : Numbered) : Type 0 where
-  -- after 22 a run of b goes on: it is accepted, and then answer, row and tape use are the single run's
+  -- after 22 a run of b goes on: it is accepted, and the two come to the same as the single run, in answer, row and tape use
   pub goes_on : AtItsLimit x.answer → limit_of x.row ≤ 2 ^ 63
       → (run_checked memory log x.row ≡ Ok tt)
-      × (let y = numbered (run_entry memory log b (drop x.answer.used tape) x.row) in
-      record { row = y.row; answer = used_before x.answer.used y.answer } ≡ single)
+      × (joined x (numbered (run_entry memory log b (drop x.answer.used tape) x.row)) ≡ single)
   -- anything else is also the answer of the single run, and the rows differ in the limit word alone
   pub ends : (AtItsLimit x.answer → ⊥) → single ≡ record { row = set_limit (limit_of x.row + b) x.row; answer = x.answer }
 
