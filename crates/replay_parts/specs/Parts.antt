@@ -18,6 +18,10 @@ most_of_a_size = 1000
 abbrev pub parts_of : ℕ → ℕ → Parts
 parts_of size step = record { size = size; more = most_of_a_size; left = step }
 
+-- how many instructions no part has had
+abbrev pub left_of : Parts → ℕ
+left_of p = p.left
+
 -- how many instructions the next part has: all that are left where no more of the size are to come
 unfoldable pub next_part : Parts → ℕ
 next_part p = cond (eqb p.more 0) p.left (min p.size p.left)

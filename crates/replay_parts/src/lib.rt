@@ -3,7 +3,7 @@
 #![tactic(auto)]
 
 ghost use Rattle.std.specs.Prelude.{◌≡◌, ◌+◌};
-ghost use Rattle.replay_parts.specs.Parts.{is_refusal, parts_of, next_part, after_part, missing};
+ghost use Rattle.replay_parts.specs.Parts.{is_refusal, parts_of, left_of, next_part, after_part, missing};
 
 // How many instructions a part has; each run is made once with parts of each of these sizes.
 pub const SIZES: [u32; 3] = [1, 7, 1000];
@@ -53,7 +53,7 @@ impl Parts {
     pub fn take(&mut self) -> u32
         ensures part { result ≡ next_part self.old }
         ensures parts_after { self.new ≡ after_part self.old }
-        ensures together { self.new.left + result ≡ self.old.left }
+        ensures together { left_of self.new + result ≡ left_of self.old }
     {
         let part = if self.more == 0 {
             self.left
