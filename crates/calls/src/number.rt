@@ -14,7 +14,7 @@ pub enum SyscallId {
 
 // The call of a number; all 64 bits count.
 #[tactic(auto, unfolding(crate::specs::CallNumbers::syscall_id))]
-pub(crate) fn syscall_id(a7: u64) -> SyscallId
+pub fn syscall_id(a7: u64) -> SyscallId
     ensures { result ≡ syscall_id a7 }
 {
     match a7 {

@@ -35,7 +35,7 @@ pub fn place_at(row: RowRef, place: usize) -> Value
 
 // The cell of a place's lowest byte.
 #[tactic(auto, using(crate::proofs::Places::base_zero, crate::proofs::Places::base_slot))]
-fn base_of(place: usize) -> usize
+pub fn base_of(place: usize) -> usize
     requires { place ≤ most_marks }
     ensures { result ≡ base_of place }
 {

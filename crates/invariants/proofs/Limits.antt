@@ -1,12 +1,15 @@
 -- The limit of a run.
-use Rattle.std.proofs.Common.{List, ◌≡◌, sym, ◌∙◌, ℕ, zero, suc, ◌+◌, ◌-◌, ◌≤◌, ◌<◌, arith, length, length-set, get_or-set_same, get_or-set_other}
+use Rattle.std.proofs.Common.{List, ◌≡◌, refl, sym, ◌∙◌, ℕ, zero, suc, ◌+◌, ◌-◌, ◌≤◌, ◌<◌, arith, length, drop, length-set, get_or-set_same, get_or-set_other}
 use Rattle.answers.specs.declared.outcome.Progress.{Progress}
 use Rattle.answers.specs.declared.outcome.Progress.TheVariants.{Running, Ended}
-use Rattle.rows.specs.Rows.{Row, Shape, pc_of, depth_of, limit_of, set_limit}
-use Rattle.machine.specs.Steps.{advanced}
+use Rattle.rows.specs.Rows.{Row, Shape, memory_words, pc_of, depth_of, limit_of, set_limit}
+use Rattle.machine.specs.Steps.{stepped, advanced}
 use Rattle.machine.specs.Runs.{Finished, continued, run_for, run_of}
 use Rattle.machine.proofs.Kept.{advanced_words, advanced_depth, advanced_limit}
 use Rattle.invariants.proofs.Runs.{run_keeps}
+use Rattle.invariants.proofs.AlikeReading.{Always, drawing_alike}
+use Rattle.invariants.proofs.AlikeResumed.{Resumed, resumed}
+use Rattle.invariants.proofs.AlikeSteps.{stepped_alike, advanced_alike}
 
 -- a run leaves the limit that it set
 pub run_limit : (step : ℕ) (tape : List ℕ) (used : ℕ) (r : Row) → Shape r.words r.marks → limit_of (run_of step tape used r).row ≡ limit_of r + step
@@ -71,3 +74,20 @@ running_at_limit step tape used r h k e =
     running_depth (limit_of r + step - depth_of r) tape used (set_limit (limit_of r + step) r) (omega arith) e
     ∙ omega arith
     ∙ sym (run_limit step tape used r h)
+
+-- with another limit an instruction comes to the same, and does the same to the rest of the row: of a tape of which nothing is used before, all is left
+pub stepped_limit : (tape : List ℕ) (used x : ℕ) (r : Row) → stepped tape used (set_limit x r) ≡ record { row = set_limit x (stepped tape used r).row; stepped = (stepped tape used r).stepped }
+stepped_limit tape used x r =
+    let w = memory_words r in
+    let alike = drawing_alike w tape (drop 0 tape) (Resumed 0 tape x w) (resumed 0 tape x w) in
+    let b = stepped_alike w tape (drop 0 tape) (Resumed 0 tape x w) Always alike used used r (set_limit x r) (record { memory = refl; used = omega arith; other = refl }) tt in
+    let u : (stepped tape used (set_limit x r)).stepped.used ≡ (stepped tape used r).stepped.used = omega (arith, b.rows.used) in
+    λ i. record { row = b.rows.other i; stepped = record { step = sym b.step i; used = u i } }
+
+pub advanced_set_limit : (tape : List ℕ) (used x : ℕ) (r : Row) → advanced tape used (set_limit x r) ≡ record { row = set_limit x (advanced tape used r).row; moved = (advanced tape used r).moved }
+advanced_set_limit tape used x r =
+    let w = memory_words r in
+    let alike = drawing_alike w tape (drop 0 tape) (Resumed 0 tape x w) (resumed 0 tape x w) in
+    let b = advanced_alike w tape (drop 0 tape) (Resumed 0 tape x w) Always alike used used r (set_limit x r) (record { memory = refl; used = omega arith; other = refl }) tt in
+    let u : (advanced tape used (set_limit x r)).moved.used ≡ (advanced tape used r).moved.used = omega (arith, b.rows.used) in
+    λ i. record { row = b.rows.other i; moved = record { progress = sym b.progress i; used = u i } }

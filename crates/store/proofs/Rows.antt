@@ -2,7 +2,7 @@
 use Rattle.std.proofs.Common.{◌≡◌, refl, sym, ap, ◌∙◌, subst, List, [], ◌∷◌, ◌++◌, append_assoc, ℕ, zero, suc, ◌+◌, ◌*◌, ◌-◌, ◌≤◌, ◌<◌, zero-mul, suc-mul, add_comm, mul-le-mul_right, le_of_suc-le-suc, not-suc-le-zero, arith, length, set, take, drop, length-drop, take-append-drop, take_at, drop_at, take-add, drop-drop, length-take-le}
 use Rattle.std.proofs.Math.Nat.{add-sub_cancel_left}
 use borrow.Rule.Slice.PartMut.{put_mid}
-use Rattle.rows.specs.Rows.{Row, row}
+use Rattle.rows.specs.Rows.{Row, row, Shape}
 use Rattle.store.specs.declared.layout.Layout.{Layout}
 use Rattle.store.specs.Store.{cut, rows_of, words_of, marks_of, nth_row, Fit}
 
@@ -131,8 +131,14 @@ given_back k r l x = put_mid (r * k) (r * k + k - r * k) l x
 lent_is_part : (k r : ℕ) (l : List ℕ) → lent k r l ≡ take k (drop (r * k) l)
 lent_is_part k r l = ap (λ (i : ℕ). take i (drop (r * k) l)) (add-sub_cancel_left (r * k) k)
 
--- row r of a store: what is lent, and what comes back
+-- row r of a store: where it ends, what is lent, and what comes back
 module _ {s : Layout} {words marks : List ℕ} (f : Fit s words marks) (r : ℕ) (h : r < s.rows) where
+  pub words_end : r * s.words + s.words ≤ length words
+  words_end = omega (arith, row_end s.rows s.words r h, f.all_words)
+
+  pub marks_end : r * s.marks + s.marks ≤ length marks
+  marks_end = omega (arith, row_end s.rows s.marks r h, f.all_marks)
+
   pub words_of_row : length (take s.words (drop (r * s.words) words)) ≡ s.words
   words_of_row = part_length s.rows s.words r words h f.all_words
 
@@ -144,6 +150,9 @@ module _ {s : Layout} {words marks : List ℕ} (f : Fit s words marks) (r : ℕ)
 
   pub lent_marks : length (lent s.marks r marks) ≡ s.marks
   lent_marks = ap length (lent_is_part s.marks r marks) ∙ marks_of_row
+
+  pub lent_shape : Shape (lent s.words r words) (lent s.marks r marks)
+  lent_shape = record { registers = omega (arith, lent_marks, f.sized.registers); slots = omega (arith, lent_words, lent_marks, f.sized.slots) }
 
   -- the two parts are row r
   pub lent_row : row (lent s.words r words) (lent s.marks r marks) ≡ nth_row (rows_of s words marks) r
