@@ -10,6 +10,7 @@ ghost use Rattle.selection.specs.Selecting.{kept_numbers, kept_rows};
 pub mod order;
 pub mod places;
 
+use arrayvec::ArrayVec;
 use store::view::StoreMut;
 
 // Keeps the rows whose flag is set with the lowest scores, at most `selection` of them, in rising order, equals in row order.
@@ -26,7 +27,8 @@ pub fn select_rarest(
     ensures rows { rows_lent store.new ≡ stored store.old.layout (kept_rows selection scores.now flags.now (rows_lent store.old)) }
     ensures same_store { SameStore store.old store.new }
 {
-    let order = order::order_of(scores, flags, selection);
+    let mut order = ArrayVec::new();
+    order::order_of(scores, flags, selection, &mut order);
     places::move_kept(store, order.as_slice());
     order.len()
 }

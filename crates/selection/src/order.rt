@@ -1,5 +1,5 @@
 // Which rows are kept, and in which order: found on their numbers and scores.
-ghost use Rattle.std.specs.Prelude.{◌≡◌, ◌≤◌, length, None};
+ghost use Rattle.std.specs.Prelude.{◌≡◌, ◌≤◌, [], length, None};
 ghost use Rattle.rows.specs.Limits.{most_rows};
 ghost use Rattle.selection.specs.Selecting.{candidates, kept_numbers};
 ghost use Rattle.selection.specs.Scanning.{lower_of, considered, lowest_in};
@@ -48,21 +48,26 @@ fn next_rarest(scores: &[f64], live: &[bool]) -> Option<ScoredRow>
     lowest
 }
 
-// The numbers of the rows to keep, in the order in which they are kept. The flag of each is cleared.
-fn find_order(scores: &[f64], live: &mut [bool], selection: usize) -> ArrayVec<usize, MOST_ROWS>
+// The numbers of the rows to keep, in the order in which they are kept, come into `order`. The flag of each is cleared.
+// The order is lent: answered by value it would be copied, and the stack would have to be 4 KiB larger.
+fn find_order(
+    scores: &[f64],
+    live: &mut [bool],
+    selection: usize,
+    order: &mut ArrayVec<usize, MOST_ROWS>,
+)
     requires a_flag_each { length scores.now ≤ length live.old }
     requires few { length scores.now ≤ most_rows }
-    ensures { result.items ≡ kept_numbers selection scores.now live.old }
+    requires empty { order.old.items ≡ [] }
+    ensures { order.new.items ≡ kept_numbers selection scores.now live.old }
 {
-    let mut order = ArrayVec::new();
     while order.len() < selection {
         let Some(rarest) = next_rarest(scores, live) else {
-            return order;
+            return;
         };
         order.push(rarest.row);
         live[rarest.row] = false;
     }
-    order
 }
 
 // The same, with the flags left as they are.
@@ -70,13 +75,15 @@ pub(crate) fn order_of(
     scores: &[f64],
     flags: &[bool],
     selection: usize,
-) -> ArrayVec<usize, MOST_ROWS>
+    order: &mut ArrayVec<usize, MOST_ROWS>,
+)
     requires a_flag_each { length scores.now ≤ length flags.now }
     requires few { length flags.now ≤ most_rows }
-    ensures { result.items ≡ kept_numbers selection scores.now flags.now }
+    requires empty { order.old.items ≡ [] }
+    ensures { order.new.items ≡ kept_numbers selection scores.now flags.now }
 {
     let mut room = [false; MOST_ROWS];
     let live = &mut room[..flags.len()];
     live.copy_from_slice(flags);
-    find_order(scores, live, selection)
+    find_order(scores, live, selection, order);
 }

@@ -3,7 +3,7 @@ use Rattle.selection.proofs.Finding.{order_starts, order_turn, order_ends, order
 use Rattle.selection.proofs.order.find_order.Goals as goal
 
 pub loop-live-init : goal.loop-live-init
-loop-live-init c = record { ordering = order_starts _ _ _ _ c.requires.a_flag_each c.new-order.ensures; same_live = refl }
+loop-live-init c = record { ordering = order_starts _ _ _ _ c.requires.a_flag_each c.requires.empty; same_live = refl }
 
 pub returns-in_default : goal.returns-in_default
 returns-in_default c = order_dry c.loop-live.invariant.ordering (sym c.in_default.is ∙ c.next_rarest.ensures)
