@@ -1,5 +1,5 @@
 // Where the parts of a line stand: twelve numbers, then the words of code, data and tape, then the runs.
-use replay_lists::columns::length_at;
+use replay_lists::columns::length_within;
 use replay_lists::program::Program;
 
 // The columns of a line's start; the sizes are the first.
@@ -25,6 +25,6 @@ const MOST_RUNS: usize = 3;
 
 // The program of a line that has the lengths that it says, and just so many numbers. What follows the tape are the runs.
 pub(crate) fn program_of(numbers: &[u64]) -> Option<Program<'_>> {
-    let runs = length_at(numbers, RUNS, MOST_RUNS)?;
+    let runs = length_within(numbers, RUNS, MOST_RUNS)?;
     Program::at(numbers, PROGRAM, CODE, runs * RUN_COLUMNS)
 }

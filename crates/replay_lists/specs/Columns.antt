@@ -6,9 +6,17 @@ use Rattle.values.specs.Values.{byte_of}
 abbrev pub number_at : List ℕ → ℕ → ℕ
 number_at numbers at = slice_index numbers at
 
+-- a number, cut down to the most that there may be
+unfoldable pub cut_to : ℕ → ℕ → ℕ
+cut_to most n = cond (nat_le n most) n most
+
+-- the length in a column, of at most so much
+abbrev pub length_at : List ℕ → ℕ → ℕ → ℕ
+length_at numbers at most = cut_to most (number_at numbers at)
+
 -- the length in a column, if it is of at most so much
-unfoldable pub length_at : List ℕ → ℕ → ℕ → Option ℕ
-length_at numbers at most = let n = number_at numbers at in cond (nat_le n most) (Some n) None
+unfoldable pub length_within : List ℕ → ℕ → ℕ → Option ℕ
+length_within numbers at most = let n = number_at numbers at in cond (nat_le n most) (Some n) None
 
 -- how many words so many bytes take
 abbrev pub words_for : ℕ → ℕ

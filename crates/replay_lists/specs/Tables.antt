@@ -1,7 +1,7 @@
 -- What a call leaves in a table that was lent to it.
 use Rattle.std.specs.Prelude.{Bool, false, ◌&&◌, Option, Some, None, List, ℕ, eqb, length, take, drop}
 use Rattle.std.specs.List.{list_all}
-use Rattle.replay_lists.specs.Columns.{number_at, length_at}
+use Rattle.replay_lists.specs.Columns.{number_at, length_within}
 
 -- what stands in each counter before a call
 abbrev pub junk_counter : ℕ
@@ -17,4 +17,4 @@ left_in None left table = false
 
 -- column `lent` has how many were lent, column `left` what each of them is
 abbrev pub is_left : List ℕ → ℕ → ℕ → List ℕ → Bool
-is_left numbers lent left table = left_in (length_at numbers lent (length table)) (number_at numbers left) table
+is_left numbers lent left table = left_in (length_within numbers lent (length table)) (number_at numbers left) table

@@ -1,6 +1,6 @@
 // The numbers of a line by their columns.
 ghost use Rattle.std.specs.Prelude.{◌≡◌, ◌<◌, ◌≤◌, length, IfSome};
-ghost use Rattle.replay_lists.specs.Columns.{number_at, length_at, words_for, bytes_at};
+ghost use Rattle.replay_lists.specs.Columns.{number_at, length_at, length_within, words_for, bytes_at};
 
 pub use values::byte_of;
 
@@ -16,10 +16,24 @@ pub fn number_at(numbers: &[u64], at: usize) -> u64
     numbers.get(at).copied().unwrap_or(0)
 }
 
-// The length in a column, if it is of at most so much.
-#[tactic(auto, unfolding(crate::specs::Columns::length_at))]
-pub fn length_at(numbers: &[u64], at: usize, most: usize) -> Option<usize>
+// The length in a column. One above the most is cut down to it.
+#[tactic(auto, unfolding(crate::specs::Columns::cut_to))]
+pub fn length_at(numbers: &[u64], at: usize, most: usize) -> usize
+    ensures upper_bound { result ≤ most }
     ensures value { result ≡ length_at numbers.now at most }
+{
+    let length = number_at(numbers, at);
+    if length <= most as u64 {
+        length as usize
+    } else {
+        most
+    }
+}
+
+// The length in a column, if it is of at most so much.
+#[tactic(auto, unfolding(crate::specs::Columns::length_within))]
+pub fn length_within(numbers: &[u64], at: usize, most: usize) -> Option<usize>
+    ensures value { result ≡ length_within numbers.now at most }
     ensures within { IfSome result (λ n. n ≤ most) }
     ensures as_it_stands { IfSome result (λ n. n ≡ number_at numbers.now at) }
 {

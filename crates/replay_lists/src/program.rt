@@ -4,7 +4,7 @@ ghost use Rattle.loader.specs.Loading.{image};
 ghost use Rattle.loader.specs.Lent.{program_seen};
 ghost use Rattle.replay_lists.specs.Columns.{number_at, words_for, words_end, bytes_at};
 
-use crate::columns::{MOST_BYTES, bytes_at, length_at, number_at, words_of};
+use crate::columns::{MOST_BYTES, bytes_at, length_within, number_at, words_of};
 
 // Columns, counted from the first of a program, where the address of its code stands.
 const CODE_LENGTH: usize = 1;
@@ -35,17 +35,16 @@ pub struct Program<'a> {
 }
 
 impl Bytes {
-    // So many bytes as a column says, in the words from `start` on. None if they are more than there is room for.
-    fn at(numbers: &[u64], column: usize, start: usize) -> Option<Bytes>
-        requires { start ≤ 1000 }
-        ensures room { IfSome result (λ b. b.room ≡ bytes_at 512 numbers.now start) }
-        ensures length { IfSome result (λ b. b.length ≡ number_at numbers.now column) }
+    // So many bytes, in the words from `start` on.
+    fn at(numbers: &[u64], start: usize, length: usize) -> Bytes
+        requires { (start ≤ 1000) × (length ≤ 512) }
+        ensures room { result.room ≡ bytes_at 512 numbers.now start }
+        ensures length { result.length ≡ length }
     {
-        let length = length_at(numbers, column, MOST_BYTES)?;
-        Some(Bytes {
+        Bytes {
             room: bytes_at(numbers, start),
             length,
-        })
+        }
     }
 
     pub fn as_slice(&self) -> &[u8]
@@ -57,7 +56,7 @@ impl Bytes {
 
 impl<'a> Program<'a> {
     // The program whose columns begin at `at`, and whose words begin at `start`, with so many numbers after its tape. None if a length
-    // is above the most, or the line does not have just these numbers.
+    // is above the most, or the line does not have just these numbers; of such a line no bytes are read.
     pub fn at(numbers: &'a [u64], at: usize, start: usize, more: usize) -> Option<Program<'a>>
         requires { (at ≤ 100) × (start ≤ 100) }
         ensures code_room { IfSome result (λ p. p.code.room ≡ bytes_at 512 numbers.now start) }
@@ -70,19 +69,19 @@ impl<'a> Program<'a> {
         ensures tape_words { IfSome result (λ p. length p.tape.now ≡ number_at numbers.now (at + 4)) }
         ensures rest_words { IfSome result (λ p. length p.rest.now ≡ more) }
     {
-        let code = Bytes::at(numbers, at + CODE_LENGTH, start)?;
-        let data_start = start + words_of(code.length);
-        let data = Bytes::at(numbers, at + DATA_LENGTH, data_start)?;
-        let (_, tape) = numbers.split_at_checked(data_start + words_of(data.length))?;
+        let code_length = length_within(numbers, at + CODE_LENGTH, MOST_BYTES)?;
+        let data_length = length_within(numbers, at + DATA_LENGTH, MOST_BYTES)?;
+        let data_start = start + words_of(code_length);
+        let (_, tape) = numbers.split_at_checked(data_start + words_of(data_length))?;
         let (tape, rest) = tape.split_at_checked(number_at(numbers, at + TAPE_WORDS) as usize)?;
         if rest.len() != more {
             return None;
         }
         Some(Program {
             code_address: number_at(numbers, at),
-            code,
+            code: Bytes::at(numbers, start, code_length),
             data_address: number_at(numbers, at + DATA_ADDRESS),
-            data,
+            data: Bytes::at(numbers, data_start, data_length),
             tape,
             rest,
         })

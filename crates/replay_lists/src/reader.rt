@@ -30,7 +30,8 @@ struct Part {
 }
 
 fn with_bytes(before: Line, numbers: &mut [u64], text: &[u8]) -> Part
-    ensures { result.taken ≤ length text.now }
+    ensures taken_in_bounds { result.taken ≤ length text.now }
+    ensures taken_nonzero { 0 < length text.now → 0 < result.taken }
 {
     let mut line = before;
     for (i, byte) in text.iter().enumerate() {

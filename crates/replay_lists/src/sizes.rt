@@ -1,7 +1,7 @@
 // What an entry over one row is told of it, and how much is lent.
 ghost use Rattle.std.specs.Prelude.{◌≤◌, length, IfSome};
 
-use crate::columns::{length_at, number_at};
+use crate::columns::{length_within, number_at};
 
 // Columns, counted from the first of the sizes.
 const LOG: usize = 1;
@@ -26,7 +26,7 @@ pub fn sizes_at(numbers: &[u64], at: usize, words: &[u64], marks: &[u8]) -> Opti
     Some(Sizes {
         memory: number_at(numbers, at),
         log: number_at(numbers, at + LOG),
-        words: length_at(numbers, at + LENT_WORDS, words.len())?,
-        marks: length_at(numbers, at + LENT_MARKS, marks.len())?,
+        words: length_within(numbers, at + LENT_WORDS, words.len())?,
+        marks: length_within(numbers, at + LENT_MARKS, marks.len())?,
     })
 }

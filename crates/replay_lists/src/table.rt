@@ -2,7 +2,7 @@
 ghost use Rattle.std.specs.Prelude.{◌≡◌};
 ghost use Rattle.replay_lists.specs.Tables.{all_are, is_left};
 
-use crate::columns::{length_at, number_at};
+use crate::columns::{length_within, number_at};
 
 // As many counters as rows of 2,048 bytes of memory need.
 pub const COUNTERS: usize = 147_456;
@@ -21,7 +21,7 @@ fn all_are(counters: &[u32], value: u64) -> bool
 pub fn is_left(numbers: &[u64], lent: usize, left: usize, table: &[u32]) -> bool
     ensures { result ≡ is_left numbers.now lent left table.now }
 {
-    let Some(lent) = length_at(numbers, lent, table.len()) else {
+    let Some(lent) = length_within(numbers, lent, table.len()) else {
         return false;
     };
     all_are(&table[..lent], number_at(numbers, left))

@@ -3,7 +3,7 @@ use crate::columns::{ANSWER, OUTPUT_BYTES, SIZES, STEP, WRITTEN};
 use answers::answer::Answer;
 use executor::run_answer;
 use replay_lists::answer;
-use replay_lists::columns::{length_at, number_at};
+use replay_lists::columns::{length_within, number_at};
 use replay_lists::program::Program;
 use replay_lists::sizes::sizes_at;
 use runner::Printed;
@@ -39,7 +39,7 @@ pub(crate) fn print(
     output: &mut [u8],
 ) -> Option<Told> {
     let sizes = sizes_at(numbers, SIZES, words, marks)?;
-    let lent_output = length_at(numbers, OUTPUT_BYTES, output.len())?;
+    let lent_output = length_within(numbers, OUTPUT_BYTES, output.len())?;
     Some(Told::by(runner::run_program(
         &mut words[..sizes.words],
         &mut marks[..sizes.marks],
@@ -63,7 +63,7 @@ pub(crate) fn go_on(
     written: usize,
 ) -> Option<Told> {
     let sizes = sizes_at(numbers, SIZES, words, marks)?;
-    let lent_output = length_at(numbers, OUTPUT_BYTES, output.len())?;
+    let lent_output = length_within(numbers, OUTPUT_BYTES, output.len())?;
     Some(Told::by(runner::go_on(
         &mut words[..sizes.words],
         &mut marks[..sizes.marks],

@@ -3,7 +3,7 @@ use crate::columns::{
     INCREMENTS, LENT_SCORES, LENT_TABLE, LOG, MEAN, MEMORY, NUMBER_BY_TABLE, ROWS,
 };
 use replay_lists::answer::mean_at;
-use replay_lists::columns::{length_at, number_at};
+use replay_lists::columns::{length_within, number_at};
 use replay_lists::float::float_of;
 use scoring::{ScoringError, scoring_number};
 
@@ -20,7 +20,7 @@ pub(crate) struct Lent<'a> {
 // The number of the call without a table; none if there are fewer scores than the line lends, or no such mean.
 pub(crate) fn call(numbers: &[u64], lent: Lent, scores: &mut [f64]) -> Option<u64> {
     let mean = mean_at(numbers, MEAN)?;
-    let lent_scores = length_at(numbers, LENT_SCORES, scores.len())?;
+    let lent_scores = length_within(numbers, LENT_SCORES, scores.len())?;
     let answer = scoring::score_with_mean(
         lent.words,
         lent.marks,
@@ -41,8 +41,8 @@ pub(crate) fn call_by_table(
     scores: &mut [f64],
 ) -> Option<Result<u64, ScoringError>> {
     let mean = mean_at(numbers, MEAN)?;
-    let lent_scores = length_at(numbers, LENT_SCORES, scores.len())?;
-    let lent_counters = length_at(numbers, LENT_TABLE, table.len())?;
+    let lent_scores = length_within(numbers, LENT_SCORES, scores.len())?;
+    let lent_counters = length_within(numbers, LENT_TABLE, table.len())?;
     let answer = scoring::by_table::score_by_table(
         lent.words,
         lent.marks,

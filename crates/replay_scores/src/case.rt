@@ -5,7 +5,7 @@ use crate::columns::{
 };
 use crate::counters::are_counters;
 use crate::runs::{put_marks, put_words};
-use replay_lists::columns::{length_at, number_at};
+use replay_lists::columns::{length_within, number_at};
 use replay_lists::table::{COUNTERS, JUNK_COUNTER, is_left};
 use replay_lists::tally::{Judged, disagrees};
 
@@ -49,8 +49,8 @@ fn replay_store(numbers: &[u64], parts: Parts) -> Option<bool> {
     let mut marks = [0; MARKS];
     put_words(parts.word_runs, &mut words)?;
     put_marks(parts.mark_runs, &mut marks)?;
-    let lent_words = length_at(numbers, LENT_WORDS, WORDS)?;
-    let lent_marks = length_at(numbers, LENT_MARKS, MARKS)?;
+    let lent_words = length_within(numbers, LENT_WORDS, WORDS)?;
+    let lent_marks = length_within(numbers, LENT_MARKS, MARKS)?;
     let lent = Lent {
         words: &words[..lent_words],
         marks: &marks[..lent_marks],

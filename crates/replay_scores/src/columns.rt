@@ -1,5 +1,5 @@
 // Where the parts of a line stand: sixteen numbers, then scores, counters, and the runs of words and of marks.
-use replay_lists::columns::length_at;
+use replay_lists::columns::length_within;
 
 pub(crate) const MEMORY: usize = 0;
 
@@ -53,10 +53,10 @@ pub(crate) struct Parts<'a> {
 
 // The parts of a line that has just so many numbers as it says.
 pub(crate) fn parts_of(numbers: &[u64]) -> Option<Parts<'_>> {
-    let scores = length_at(numbers, SCORES, MOST_NUMBERS)?;
-    let counters = length_at(numbers, COUNTERS, MOST_NUMBERS)?;
-    let word_runs = length_at(numbers, WORD_RUNS, MOST_NUMBERS)?;
-    let mark_runs = length_at(numbers, MARK_RUNS, MOST_NUMBERS)?;
+    let scores = length_within(numbers, SCORES, MOST_NUMBERS)?;
+    let counters = length_within(numbers, COUNTERS, MOST_NUMBERS)?;
+    let word_runs = length_within(numbers, WORD_RUNS, MOST_NUMBERS)?;
+    let mark_runs = length_within(numbers, MARK_RUNS, MOST_NUMBERS)?;
     let (_, rest) = numbers.split_at_checked(FIRST_SCORE)?;
     let (scores, rest) = rest.split_at_checked(scores)?;
     let (counters, rest) = rest.split_at_checked(TRIPLE * counters)?;

@@ -5,7 +5,7 @@ ghost use Rattle.rows.specs.Rows.{header};
 use crate::columns::{LOG, MEMORY, ROWS, TRIPLE};
 use counting::counter::counter;
 use counting::taking::Taking;
-use replay_lists::columns::number_at;
+use replay_lists::columns::{length_at, number_at};
 use rows::row::REGISTERS;
 use store::layout::Layout;
 use store::view::StoreRef;
@@ -13,9 +13,9 @@ use store::view::StoreRef;
 // The most that a store of the list has.
 const MOST_ROWS: usize = 16;
 
-const MOST_MEMORY: u64 = 2048;
+const MOST_MEMORY: usize = 2048;
 
-const MOST_LOG: u64 = 16;
+const MOST_LOG: usize = 16;
 
 // Columns of a counter.
 const CELL: usize = 0;
@@ -28,10 +28,10 @@ const COUNTER: usize = 2;
 fn layout_of(numbers: &[u64]) -> Layout
     ensures { (result.rows ≤ 16) × (result.marks ≤ 288) × (result.words ≤ 310) × (result.marks + header ≤ result.words) }
 {
-    let rows = number_at(numbers, ROWS).min(MOST_ROWS as u64) as usize;
-    let memory = number_at(numbers, MEMORY).min(MOST_MEMORY) / 8;
-    let log = number_at(numbers, LOG).min(MOST_LOG);
-    Layout::new(rows, memory, log)
+    let rows = length_at(numbers, ROWS, MOST_ROWS);
+    let memory = length_at(numbers, MEMORY, MOST_MEMORY) / 8;
+    let log = length_at(numbers, LOG, MOST_LOG);
+    Layout::new(rows, memory as u64, log as u64)
 }
 
 // Whether a counter is so.

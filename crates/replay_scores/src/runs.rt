@@ -1,6 +1,6 @@
 // The store of a line: words and marks are 0 but for runs of one value.
 use crate::columns::TRIPLE;
-use replay_lists::columns::{length_at, number_at};
+use replay_lists::columns::{length_within, number_at};
 
 // Columns of a run.
 const FROM: usize = 0;
@@ -13,8 +13,8 @@ const VALUE: usize = 2;
 fn put_run<T: Copy + Drop>(places: &mut [T], run: &[u64], value: T) -> Option<()>
     requires { T.is_infallible value }
 {
-    let from = length_at(run, FROM, places.len())?;
-    let count = length_at(run, COUNT, places.len() - from)?;
+    let from = length_within(run, FROM, places.len())?;
+    let count = length_within(run, COUNT, places.len() - from)?;
     places[from..from + count].fill(value);
     Some(())
 }

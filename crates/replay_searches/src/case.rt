@@ -67,7 +67,10 @@ fn replay_by_table(numbers: &[u64], asked: RaritySimulationOptions, program: &Pr
 }
 
 pub(crate) fn judge(numbers: &[u64]) -> Judged {
-    let (Some(program), Some(asked)) = (program_of(numbers), options_of(numbers)) else {
+    let Some(program) = program_of(numbers) else {
+        return disagrees(0);
+    };
+    let Some(asked) = options_of(numbers) else {
         return disagrees(0);
     };
     Judged {

@@ -4,7 +4,7 @@ use crate::columns::{
 };
 use answers::answer::Answer;
 use options::RaritySimulationOptions;
-use replay_lists::columns::{length_at, number_at};
+use replay_lists::columns::{length_within, number_at};
 use replay_lists::program::Program;
 use search::answer::search_answer;
 
@@ -16,8 +16,8 @@ pub(crate) fn search_line(
     words: &mut [u64],
     marks: &mut [u8],
 ) -> Option<Answer> {
-    let lent_words = length_at(numbers, LENT_WORDS, words.len())?;
-    let lent_marks = length_at(numbers, LENT_MARKS, marks.len())?;
+    let lent_words = length_within(numbers, LENT_WORDS, words.len())?;
+    let lent_marks = length_within(numbers, LENT_MARKS, marks.len())?;
     let searched = search::search_for_bugs(
         &mut words[..lent_words],
         &mut marks[..lent_marks],
@@ -38,9 +38,9 @@ pub(crate) fn search_line_by_table(
     marks: &mut [u8],
     table: &mut [u32],
 ) -> Option<Answer> {
-    let lent_words = length_at(numbers, LENT_WORDS, words.len())?;
-    let lent_marks = length_at(numbers, LENT_MARKS, marks.len())?;
-    let lent_counters = length_at(numbers, LENT_TABLE, table.len())?;
+    let lent_words = length_within(numbers, LENT_WORDS, words.len())?;
+    let lent_marks = length_within(numbers, LENT_MARKS, marks.len())?;
+    let lent_counters = length_within(numbers, LENT_TABLE, table.len())?;
     let searched = search::by_table::search_by_table(
         &mut words[..lent_words],
         &mut marks[..lent_marks],

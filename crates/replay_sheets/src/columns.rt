@@ -2,7 +2,7 @@
 ghost use Rattle.std.specs.Prelude.{◌<◌, ◌≤◌, length};
 ghost use Rattle.report.specs.Reports.{sheet_buffer, most_printed};
 
-use replay_lists::columns::{WORD_BYTES, byte_of, length_at, number_at};
+use replay_lists::columns::{WORD_BYTES, byte_of, length_within, number_at};
 use report::{MOST_PRINTED, SHEET_BUFFER};
 
 // The length of the sheet and of what is printed are in bytes.
@@ -33,9 +33,9 @@ pub(crate) struct Case<'a> {
 
 // The case of a line that has the lengths that it says, and just so many numbers.
 pub(crate) fn case_of(numbers: &[u64]) -> Option<Case<'_>> {
-    let bytes = length_at(numbers, LENGTH, SHEET_BUFFER)?;
-    let stored = length_at(numbers, STORED, MOST_NUMBERS)?;
-    let printed = length_at(numbers, PRINTED, MOST_PRINTED)?;
+    let bytes = length_within(numbers, LENGTH, SHEET_BUFFER)?;
+    let stored = length_within(numbers, STORED, MOST_NUMBERS)?;
+    let printed = length_within(numbers, PRINTED, MOST_PRINTED)?;
     let (_, rest) = numbers.split_at_checked(SHEET)?;
     let (stored, words) = rest.split_at_checked(stored)?;
     if stored.is_empty() || words.len() != printed.div_ceil(WORD_BYTES) {
