@@ -38,12 +38,13 @@ pub(crate) fn has_shape(line: &[u8], shape: &[u8]) -> bool {
 impl Column {
     // The number in the column of a line that has its list's shape.
     pub(crate) fn number(self, line: &[u8]) -> u64 {
-        line.iter()
-            .skip(self.at)
-            .take(self.digits)
-            .fold(0, |value, byte| {
-                value % ROOM_FOR_DIGIT * BASE + digit(*byte).unwrap_or(0)
-            })
+        let Some((_, from)) = line.split_at_checked(self.at) else {
+            return 0;
+        };
+        let digits = &from[..self.digits.min(from.len())];
+        digits.iter().fold(0, |value, byte| {
+            value % ROOM_FOR_DIGIT * BASE + digit(*byte).unwrap_or(0)
+        })
     }
 
     // The instruction word in a column of eight digits.
